@@ -1,0 +1,4 @@
+pub mod Loops
+pub mod Exclusive
+pub mod Judged
+pub mod Owned

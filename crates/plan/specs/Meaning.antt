@@ -1,0 +1,28 @@
+-- What a plan that exists means for the bits of the image. Assumes nothing.
+use mathlib.Core.Path.{_≡_}
+use mathlib.Core.Bool.{true}
+use mathlib.Core.List.{List, [], _∷_, _++_}
+use Prim.Native.Nat.{ℕ, _*_, _<_}
+use lib.ListN.{length, getD}
+use Rattle.units.specs.Spans.{Has}
+use Rattle.plan.specs.declared.windows.MappedWindow.{MappedWindow}
+use Rattle.plan.specs.declared.stations.PlannedStation.{PlannedStation}
+use Rattle.plan.specs.Limits.{maxStations, windowInRange, mailboxInRange}
+use Rattle.plan.specs.Windows.{bitsOf, noWindow, allWindows}
+
+-- bit k of the image belongs to window i of the list
+abbrev pub Owns : List MappedWindow → ℕ → ℕ → Type 0
+Owns ws i k = Has (bitsOf (getD ws i noWindow .window)) k
+
+-- each window lies in the image, and no image bit belongs to two windows
+pub record Exclusive (bytes : ℕ) (ws : List MappedWindow) : Type 0 where
+  pub inside : (i k : ℕ) → Owns ws i k → k < 8 * bytes
+  pub one : (i j k : ℕ) → Owns ws i k → Owns ws j k → i ≡ j
+
+-- a station that breaks no rule behind the stations ss
+pub record Sound (bytes : ℕ) (ss : List PlannedStation) (s : PlannedStation) : Type 0 where
+  pub room : length ss < maxStations
+  pub outputs : windowInRange (s .outputs) ≡ true
+  pub inputs : windowInRange (s .inputs) ≡ true
+  pub mailbox : mailboxInRange (s .mailbox) ≡ true
+  pub exclusive : Exclusive bytes (allWindows (ss ++ s ∷ []))
