@@ -1,0 +1,4 @@
+pub mod Keywords
+pub mod Grammar
+pub mod Said
+pub mod Outcome

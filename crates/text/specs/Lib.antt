@@ -1,0 +1,4 @@
+pub mod Decimal
+pub mod Lines
+pub mod Pieces
+pub mod Words
