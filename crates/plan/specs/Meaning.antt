@@ -4,7 +4,7 @@ use mathlib.Core.Bool.{true}
 use mathlib.Core.List.{List, [], _∷_, _++_}
 use Prim.Native.Nat.{ℕ, _*_, _<_}
 use lib.ListN.{length, getD}
-use Rattle.units.specs.Spans.{Has}
+use Rattle.units.specs.Spans.{Range, Has}
 use Rattle.plan.specs.declared.windows.MappedWindow.{MappedWindow}
 use Rattle.plan.specs.declared.stations.PlannedStation.{PlannedStation}
 use Rattle.plan.specs.Limits.{maxStations, windowInRange, mailboxInRange}
@@ -13,6 +13,10 @@ use Rattle.plan.specs.Windows.{bitsOf, noWindow, allWindows}
 -- bit k of the image belongs to window i of the list
 abbrev pub Owns : List MappedWindow → ℕ → ℕ → Type 0
 Owns ws i k = Has (bitsOf (getD ws i noWindow .window)) k
+
+-- a range has exactly the bits that two others both have
+abbrev pub Shared : Range → Range → Range → Type 0
+Shared x y z = (k : ℕ) → (Has z k → Has x k × Has y k) × (Has x k × Has y k → Has z k)
 
 -- each window lies in the image, and no image bit belongs to two windows
 pub record Exclusive (bytes : ℕ) (ws : List MappedWindow) : Type 0 where

@@ -1,7 +1,7 @@
 -- The windows of a planned station, and the bits of the image that they have. Assumes nothing.
 use mathlib.Core.Bool.{Bool, true, false, not, cond, _&&_, _||_}
 use mathlib.Core.List.{List, [], _∷_, _++_}
-use Prim.Native.Nat.{ℕ, _+_, _*_}
+use Prim.Native.Nat.{ℕ, _+_, _-_, _*_, min, max}
 use lib.Dec.{ltb}
 use Rattle.units.specs.Spans.{Range, within, meet}
 use Rattle.plan.specs.Lists.{any}
@@ -31,6 +31,13 @@ bitsOf w = record { first = w .first .0; count = w .bits }
 -- all bits of an image of so many bytes
 abbrev pub imageBits : ℕ → Range
 imageBits bytes = record { first = 0; count = 8 * bytes }
+
+-- the bits that both have
+abbrev pub common : Range → Range → Range
+common x y = record {
+  first = max (x .first) (y .first);
+  count = min (x .first + x .count) (y .first + y .count) - max (x .first) (y .first)
+}
 
 -- the windows of a station, in the order in which they are looked at
 abbrev pub windows : PlannedStation → List MappedWindow

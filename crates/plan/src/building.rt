@@ -18,9 +18,7 @@ use crate::stations::PlannedStation;
 use crate::windows::any_leaves;
 use crate::windows::pair_meets;
 use std::alloc::Global;
-use units::ImageBit;
 use units::LinePosition;
-use units::Span;
 
 // The first of the stations that shares a bit with the new one.
 fn first_met(stations: &[PlannedStation], new: &PlannedStation) -> Option<usize>
@@ -59,7 +57,7 @@ impl Plan {
             return Some(PlanFault::FieldOutOfRange { position: here, field });
         }
         let windows = station.windows();
-        if any_leaves(&windows, &Span { first: ImageBit(0), count: 8 * self.image_bytes }) {
+        if any_leaves(&windows, &self.image()) {
             return Some(PlanFault::WindowConflict { earlier: here, later: here });
         }
         if let Some(i) = first_met(self.stations.as_slice(), station) {

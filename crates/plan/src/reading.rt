@@ -5,8 +5,9 @@ ghost use Prim.Native.Nat.{_≤_, _*_};
 ghost use lib.ListN.{length};
 ghost use Rattle.std.specs.Results.{Cases};
 ghost use Rattle.std.specs.declared.option.Option.the-variants.{Some, None};
+ghost use Rattle.units.specs.Spans.{spanned};
 ghost use Rattle.plan.specs.Limits.{maxStations, imageInRange};
-ghost use Rattle.plan.specs.Windows.{allWindows, expectedCounter};
+ghost use Rattle.plan.specs.Windows.{imageBits, allWindows, expectedCounter};
 ghost use Rattle.plan.specs.Verdict.{emptyVerdict};
 ghost use Rattle.plan.specs.Meaning.{Exclusive};
 ghost use Rattle.plan.specs.Owners.{directionAt, ownerFrom, freeBelow};
@@ -20,6 +21,7 @@ use crate::windows::MappedWindow;
 use units::ImageBit;
 use units::ImageBitCountable;
 use units::LinePosition;
+use units::Span;
 
 // The direction of the window that has the bit.
 fn direction_at(windows: &[MappedWindow], bit: ImageBit) -> Option<Direction>
@@ -39,6 +41,13 @@ impl Plan {
         ensures range { λ r. ⌜ imageInRange r ≡ true ⌝ }
     {
         self.image_bytes
+    }
+
+    // All bits of the image.
+    pub fn image(&self) -> Span<ImageBit>
+        ensures { λ r. ⌜ spanned (λ unit. unit .0) r ≡ imageBits (imageBytes (now (self .entry))) ⌝ }
+    {
+        Span { first: ImageBit(0), count: 8 * self.image_bytes }
     }
 
     // The stations, by position. Each of their windows lies in the image, and no bit of it belongs to two windows.

@@ -4,7 +4,8 @@ ghost use mathlib.Core.Bool.{not};
 ghost use Rattle.units.specs.Spans.{spanned, has, within, meet};
 ghost use Rattle.plan.specs.Limits.{windowInRange};
 ghost use lib.ListN.{drop};
-ghost use Rattle.plan.specs.Windows.{bitsOf, anyLeaves, meetsAny, anyMeet, pairMeets};
+ghost use Rattle.plan.specs.Meaning.{Shared};
+ghost use Rattle.plan.specs.Windows.{bitsOf, common, anyLeaves, meetsAny, anyMeet, pairMeets};
 use crate::limits::MAX_WINDOW_BITS;
 use units::Countable;
 use units::ImageBit;
@@ -68,6 +69,18 @@ impl Window {
         ensures { λ r. ⌜ r ≡ meet (bitsOf (now (self .entry))) (bitsOf (now (other .entry))) ⌝ }
     {
         self.span().meets(&other.span())
+    }
+
+    // The bits that both have.
+    pub fn common(&self, other: &Window) -> Window
+        ensures value { λ r. ⌜ bitsOf r ≡ common (bitsOf (now (self .entry))) (bitsOf (now (other .entry))) ⌝ }
+        ensures means { λ r. ⌜ Shared (bitsOf (now (self .entry))) (bitsOf (now (other .entry))) (bitsOf r) ⌝ }
+    {
+        let first = self.first.0.max(other.first.0);
+        let mine = u64::from(self.first.0) + u64::from(self.bits);
+        let theirs = u64::from(other.first.0) + u64::from(other.bits);
+        let bits = mine.min(theirs).saturating_sub(u64::from(first)) as u32;
+        Window { first: ImageBit(first), bits }
     }
 
     // Whether it shares a bit with one of the others.

@@ -8,6 +8,7 @@ pub mod stages;
 pub use expected::Expected;
 pub use reading::NamedPlan;
 pub use reading::ReadError;
+pub use reading::read_plan;
 pub use said::Line;
 pub use said::StationLine;
 pub use said::read_line;
