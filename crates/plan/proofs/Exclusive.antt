@@ -12,7 +12,8 @@ use Rattle.units.proofs.Spans.{within-decides, meet-decides}
 use Rattle.plan.specs.declared.windows.MappedWindow.{MappedWindow}
 use Rattle.plan.specs.declared.stations.PlannedStation.{PlannedStation}
 use Rattle.plan.specs.Lists.{any}
-use Rattle.plan.specs.Windows.{bitsOf, imageBits, noWindow, windows, allWindows, anyLeaves, meetsAny, anyMeet, stationsMeet, pairMeets}
+use Rattle.plan.specs.Windows.{bitsOf, imageBits, noWindow, anyLeaves, meetsAny, anyMeet, pairMeets}
+use Rattle.plan.specs.Stations.{windows, allWindows, stationsMeet}
 use Rattle.plan.specs.Meaning.{Owns, Exclusive}
 
 -- where an element passes, and that none does
@@ -75,11 +76,12 @@ apart (w ∷ ws) e zero (suc j) k lt p q =
     both-ways _ t (meet-decides (bitsOf (w .window)) (bitsOf (getD ws j noWindow .window)) .1 (k, p, q))
 apart (w ∷ ws) e (suc i) (suc j) k lt p q = apart ws (or-parts (meetsAny (w .window) ws) (pairMeets ws) e .1) i j k (omega arith) p q
 
+-- a bit belongs to one window at most
+pub one : (ws : List MappedWindow) → pairMeets ws ≡ false → (i j k : ℕ) → Owns ws i k → Owns ws j k → i ≡ j
+one ws e i j k p q = ⊎-elim (λ h. h) (⊎-elim (λ lt. absurd (apart ws e i j k lt p q)) (λ lt. absurd (apart ws e j i k lt q p))) (cases-order i j)
+
 pub exclusive : (bytes : ℕ) (ws : List MappedWindow) → anyLeaves (imageBits bytes) ws ≡ false → pairMeets ws ≡ false → Exclusive bytes ws
-exclusive bytes ws e f = record {
-  inside = inside bytes ws e;
-  one = λ i j k p q. ⊎-elim (λ h. h) (⊎-elim (λ lt. absurd (apart ws f i j k lt p q)) (λ lt. absurd (apart ws f j i k lt q p))) (cases-order i j)
-}
+exclusive bytes ws e f = record { inside = inside bytes ws e; one = one ws f }
 
 -- two windows that share a bit
 shared : (ws : List MappedWindow) → pairMeets ws ≡ true → (i : ℕ) × (j : ℕ) × (k : ℕ) × (i < j) × Owns ws i k × Owns ws j k

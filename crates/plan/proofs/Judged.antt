@@ -16,7 +16,8 @@ use Rattle.plan.specs.declared.windows.MappedWindow.{MappedWindow}
 use Rattle.plan.specs.declared.stations.PlannedStation.{PlannedStation}
 use Rattle.plan.specs.Lists.{any, firstFrom, orElse, given}
 use Rattle.plan.specs.Limits.{maxStations, windowInRange, mailboxInRange}
-use Rattle.plan.specs.Windows.{bitsOf, imageBits, windows, allWindows, anyLeaves, anyMeet, stationsMeet, pairMeets}
+use Rattle.plan.specs.Windows.{bitsOf, imageBits, anyLeaves, anyMeet, pairMeets}
+use Rattle.plan.specs.Stations.{windows, allWindows, stationsMeet}
 use Rattle.plan.specs.Verdict.{fieldOutOfRange, anyOutOfRange, firstMet, verdict}
 use Rattle.plan.specs.declared.plans.Plan.{Plan}
 use Rattle.plan.specs.Building.{imageBytes, stationsOf}
@@ -25,10 +26,10 @@ use Rattle.plan.proofs.Exclusive.{any-append, pair-append, windows-push, met-w
 
 -- answers in turn: there is none exactly if no part has one
 
-never : {X : Type 0} {x : X} → Some x ≡ None → ⊥
+pub never : {X : Type 0} {x : X} → Some x ≡ None → ⊥
 never e = let z : _≡_ {A = ℕ} 0 1 = cc in omega arith
 
-else-parts : {X : Type 0} (x y : Option X) → orElse x y ≡ None → (x ≡ None) × (y ≡ None)
+pub else-parts : {X : Type 0} (x y : Option X) → orElse x y ≡ None → (x ≡ None) × (y ≡ None)
 else-parts None y e = (refl, e)
 else-parts (Some x) y e = absurd (never e)
 
@@ -42,7 +43,7 @@ given-parts false x e = refl
 given-from : {X : Type 0} (b : Bool) (x : X) → b ≡ false → given b x ≡ None
 given-from b x e = ap (λ t. given t x) e
 
-mapped-parts : {X Y : Type 0} (f : X → Y) (x : Option X) → mapped f x ≡ None → x ≡ None
+pub mapped-parts : {X Y : Type 0} (f : X → Y) (x : Option X) → mapped f x ≡ None → x ≡ None
 mapped-parts f None e = refl
 mapped-parts f (Some x) e = absurd (never e)
 
@@ -59,9 +60,6 @@ first-from p i [] e = refl
 first-from p i (x ∷ xs) e =
     let h = or-parts (p x) (any p xs) e in
     λ j. cond (h .0 j) (Some i) (first-from p (i + 1) xs (h .1) j)
-
-some-none : {X : Type 0} (o : Option X) → o ≡ None → isSome o ≡ false
-some-none o e = ap isSome e
 
 -- no field of a station is out of range
 in-range : (s : PlannedStation) → fieldOutOfRange s ≡ None → (windowInRange (s .outputs) ≡ true) × (windowInRange (s .inputs) ≡ true) × (mailboxInRange (s .mailbox) ≡ true)
@@ -81,29 +79,47 @@ pub kept : (p : Plan) → Kept (imageBytes p) (stationsOf p)
 kept p = record { few = p .few; fields = p .fields; inside = p .inside; apart = p .apart }
 
 module _ (bytes : ℕ) (ss : List PlannedStation) (s : PlannedStation) where
-  -- a station that the verdict passes keeps the plan as it has to be
-  pub passed : Kept bytes ss → verdict bytes ss s ≡ None → Kept bytes (ss ++ s ∷ [])
-  passed kept e =
+  -- each part of a verdict that passes a station
+  pub record Passed : Type 0 where
+    pub room : length ss < maxStations
+    pub fields : fieldOutOfRange s ≡ None
+    pub inside : anyLeaves (imageBits bytes) (windows s) ≡ false
+    pub met : anyMeet (allWindows ss) (windows s) ≡ false
+    pub own : pairMeets (windows s) ≡ false
+
+  parts : verdict bytes ss s ≡ None → Passed
+  parts e =
       let a = else-parts _ _ e in
       let b = else-parts _ _ (a .1) in
       let c = else-parts _ _ (b .1) in
       let d = else-parts _ _ (c .1) in
-      let met = sym (met-windows ss s) ∙ first-parts (λ t. stationsMeet t s) 0 ss (mapped-parts _ _ (d .0)) in
       record {
-        few = omega (arith, leb-false maxStations (length ss) (given-parts _ _ (a .0)), length-push ss s);
-        fields = any-append (λ t. isSome (fieldOutOfRange t)) ss (s ∷ []) ∙ or-from _ _ (kept .fields) (or-from _ _ (some-none (fieldOutOfRange s) (mapped-parts _ _ (b .0))) refl);
-        inside = ap (anyLeaves (imageBits bytes)) (windows-push ss s) ∙ any-append _ (allWindows ss) (windows s) ∙ or-from _ _ (kept .inside) (given-parts _ _ (c .0));
-        apart = ap pairMeets (windows-push ss s) ∙ pair-append (allWindows ss) (windows s) ∙ or-from _ _ (kept .apart) (or-from _ _ met (given-parts _ _ (d .1)))
+        room = leb-false maxStations (length ss) (given-parts _ _ (a .0));
+        fields = mapped-parts _ _ (b .0);
+        inside = given-parts _ _ (c .0);
+        met = sym (met-windows ss s) ∙ first-parts (λ t. stationsMeet t s) 0 ss (mapped-parts _ _ (d .0));
+        own = given-parts _ _ (d .1)
+      }
+
+  -- a station that the verdict passes keeps the plan as it has to be
+  pub passed : Kept bytes ss → verdict bytes ss s ≡ None → Kept bytes (ss ++ s ∷ [])
+  passed kept e =
+      let p : Passed = parts e in
+      record {
+        few = omega (arith, length-push ss s);
+        fields = any-append (λ t. isSome (fieldOutOfRange t)) ss (s ∷ []) ∙ or-from _ _ (kept .fields) (or-from _ _ (ap isSome (p .fields)) refl);
+        inside = ap (anyLeaves (imageBits bytes)) (windows-push ss s) ∙ any-append _ (allWindows ss) (windows s) ∙ or-from _ _ (kept .inside) (p .inside);
+        apart = ap pairMeets (windows-push ss s) ∙ pair-append (allWindows ss) (windows s) ∙ or-from _ _ (kept .apart) (or-from _ _ (p .met) (p .own))
       }
 
   -- a station that the verdict passes is sound
   pub sound : Kept bytes ss → verdict bytes ss s ≡ None → Sound bytes ss s
   sound kept e =
+      let p : Passed = parts e in
       let after = passed kept e in
-      let a = else-parts _ _ e in
-      let f = in-range s (mapped-parts _ _ (else-parts _ _ (a .1) .0)) in
+      let f = in-range s (p .fields) in
       record {
-        room = leb-false maxStations (length ss) (given-parts _ _ (a .0));
+        room = p .room;
         outputs = f .0;
         inputs = f .1;
         mailbox = f .2;

@@ -15,7 +15,7 @@ use Rattle.plan.specs.Verdict.{imageVerdict, verdict}
 
 -- the bytes of the plan's image
 abbrev pub imageBytes : Plan → ℕ
-imageBytes p = p .«image_bytes»
+imageBytes p = p .bytes
 
 -- the plan's stations, by position
 abbrev pub stationsOf : Plan → List PlannedStation

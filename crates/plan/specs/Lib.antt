@@ -1,6 +1,8 @@
 pub mod Lists
 pub mod Limits
 pub mod Windows
+pub mod Stations
+pub mod Counter
 pub mod Faults
 pub mod Verdict
 pub mod Meaning

@@ -8,7 +8,8 @@ use Rattle.units.specs.Spans.{Range, Has}
 use Rattle.plan.specs.declared.windows.MappedWindow.{MappedWindow}
 use Rattle.plan.specs.declared.stations.PlannedStation.{PlannedStation}
 use Rattle.plan.specs.Limits.{maxStations, windowInRange, mailboxInRange}
-use Rattle.plan.specs.Windows.{bitsOf, noWindow, allWindows}
+use Rattle.plan.specs.Windows.{bitsOf, noWindow}
+use Rattle.plan.specs.Stations.{allWindows}
 
 -- bit k of the image belongs to window i of the list
 abbrev pub Owns : List MappedWindow → ℕ → ℕ → Type 0

@@ -1,7 +1,9 @@
 -- Whose bit of the image it is. Assumes nothing.
+use mathlib.Core.Path.{_≡_}
 use mathlib.Core.Bool.{cond}
 use mathlib.Core.List.{List, [], _∷_}
 use Prim.Native.Nat.{ℕ, zero, suc, _+_}
+use lib.ListN.{getD}
 use Rattle.std.specs.declared.option.Option.{Option}
 use Rattle.std.specs.declared.option.Option.the-variants.{Some, None}
 use Rattle.std.specs.Options.{mapped, isSome}
@@ -11,7 +13,9 @@ use Rattle.plan.specs.declared.windows.MappedWindow.{MappedWindow}
 use Rattle.plan.specs.declared.stations.PlannedStation.{PlannedStation}
 use Rattle.plan.specs.declared.owners.Owner.{Owner}
 use Rattle.plan.specs.Lists.{orElse}
-use Rattle.plan.specs.Windows.{bitsOf, windows}
+use Rattle.plan.specs.Windows.{bitsOf, noWindow}
+use Rattle.plan.specs.Stations.{windows, bare}
+use Rattle.plan.specs.Meaning.{Owns}
 use Rattle.plan.specs.Verdict.{position}
 
 -- the direction of the first window that has bit k
@@ -31,3 +35,14 @@ ownerFrom i (s ∷ ss) k = orElse (mapped (owner i) (directionAt (windows s) k))
 abbrev pub freeBelow : List PlannedStation → ℕ → ℕ
 freeBelow ss zero = 0
 freeBelow ss (suc k) = freeBelow ss k + cond (isSome (ownerFrom 0 ss k)) 0 1
+
+-- one of that owner's windows has bit k
+abbrev pub Belongs : List PlannedStation → Owner → ℕ → Type 0
+Belongs ss o k =
+    let ws = windows (getD ss (o .position .0) bare) in
+    (j : ℕ) × Owns ws j k × (getD ws j noWindow .direction ≡ o .direction)
+
+-- nobody has bit k, or the owner has it and nobody else
+abbrev pub OneOwner : List PlannedStation → ℕ → Option Owner → Type 0
+OneOwner ss k None = (p : Owner) → Belongs ss p k → ⊥
+OneOwner ss k (Some o) = Belongs ss o k × ((p : Owner) → Belongs ss p k → p ≡ o)

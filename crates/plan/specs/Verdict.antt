@@ -15,7 +15,8 @@ use Rattle.plan.specs.declared.faults.PlanFault.the-variants.{ImageLength, NoS
 use Rattle.plan.specs.declared.stations.PlannedStation.{PlannedStation}
 use Rattle.plan.specs.Lists.{any, firstFrom, orElse, given}
 use Rattle.plan.specs.Limits.{maxStations, imageInRange, windowInRange, mailboxInRange}
-use Rattle.plan.specs.Windows.{windows, imageBits, anyLeaves, stationsMeet, pairMeets}
+use Rattle.plan.specs.Windows.{imageBits, anyLeaves, pairMeets}
+use Rattle.plan.specs.Stations.{windows, stationsMeet}
 
 abbrev pub position : ℕ → LinePosition
 position n = record { 0 = n }

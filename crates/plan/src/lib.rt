@@ -1,11 +1,13 @@
 // A plan: an image, and the stations whose windows of it never share a bit.
 pub mod building;
+pub mod counters;
 pub mod faults;
 pub mod limits;
+pub mod mappings;
 pub mod owners;
 pub mod plans;
-pub mod reading;
 pub mod stations;
+pub mod verdicts;
 pub mod windows;
 
 pub use faults::PlanError;

@@ -13,14 +13,14 @@ pub const MAX_WINDOW_BITS: u32 = 512;
 pub const MIN_MAILBOX_BYTES: u32 = 16;
 pub const MAX_MAILBOX_BYTES: u32 = 128;
 
-pub fn image_in_range(bytes: u32) -> bool
+pub(crate) fn image_in_range(bytes: u32) -> bool
     ensures { λ r. ⌜ r ≡ imageInRange bytes ⌝ }
 {
     MIN_IMAGE_BYTES <= bytes && bytes <= MAX_IMAGE_BYTES
 }
 
 // No mailbox has length 0.
-pub fn mailbox_in_range(bytes: u32) -> bool
+pub(crate) fn mailbox_in_range(bytes: u32) -> bool
     ensures { λ r. ⌜ r ≡ mailboxInRange bytes ⌝ }
 {
     bytes == 0 || (MIN_MAILBOX_BYTES <= bytes && bytes <= MAX_MAILBOX_BYTES)

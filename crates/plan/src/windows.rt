@@ -10,26 +10,23 @@ use crate::limits::MAX_WINDOW_BITS;
 use units::Countable;
 use units::ImageBit;
 use units::ImageBitCountable;
-use units::ImageBitDebug;
-use units::ImageBitEq;
-use units::ImageBitPartialEq;
 use units::Span;
 
 // So many bits from the first on; a window of no bits has first bit 0.
-#[derive(Clone, Copy, Debug, PartialEq, Eq)]
+#[derive(Clone, Copy)]
 pub struct Window {
     pub first: ImageBit,
     pub bits: u32,
 }
 
 // Seen from the master: a station takes its outputs from the image and puts its inputs into it.
-#[derive(Clone, Copy, Debug, PartialEq, Eq)]
+#[derive(Clone, Copy)]
 pub enum Direction {
     Output,
     Input,
 }
 
-#[derive(Clone, Copy, Debug, PartialEq, Eq)]
+#[derive(Clone, Copy)]
 pub struct MappedWindow {
     pub direction: Direction,
     pub window: Window,
@@ -38,20 +35,20 @@ pub struct MappedWindow {
 impl Window {
     pub const NONE: Window = Window { first: ImageBit(0), bits: 0 };
 
-    pub fn span(&self) -> Span<ImageBit>
+    pub(crate) fn span(&self) -> Span<ImageBit>
         ensures { λ r. ⌜ spanned (λ unit. unit .0) r ≡ bitsOf (now (self .entry)) ⌝ }
     {
         Span { first: self.first, count: self.bits }
     }
 
     // Whether it has few enough bits and, with none, begins at 0.
-    pub fn in_range(&self) -> bool
+    pub(crate) fn in_range(&self) -> bool
         ensures { λ r. ⌜ r ≡ windowInRange (now (self .entry)) ⌝ }
     {
         self.bits <= MAX_WINDOW_BITS && (self.bits > 0 || self.first.0 == 0)
     }
 
-    pub fn has(&self, bit: ImageBit) -> bool
+    pub(crate) fn has(&self, bit: ImageBit) -> bool
         ensures { λ r. ⌜ r ≡ has (bitsOf (now (self .entry))) (bit .0) ⌝ }
     {
         self.span().has(&bit)
@@ -97,7 +94,7 @@ impl Window {
 }
 
 // Whether one of the windows leaves the image.
-pub fn any_leaves(windows: &[MappedWindow], image: &Span<ImageBit>) -> bool
+pub(crate) fn any_leaves(windows: &[MappedWindow], image: &Span<ImageBit>) -> bool
     ensures { λ r. ⌜ r ≡ anyLeaves (spanned (λ unit. unit .0) (now (image .entry))) (now (windows .entry)) ⌝ }
 {
     for mapped in windows {
@@ -109,7 +106,7 @@ pub fn any_leaves(windows: &[MappedWindow], image: &Span<ImageBit>) -> bool
 }
 
 // Whether a window of the one list shares a bit with a window of the other.
-pub fn any_meet(windows: &[MappedWindow], others: &[MappedWindow]) -> bool
+pub(crate) fn any_meet(windows: &[MappedWindow], others: &[MappedWindow]) -> bool
     ensures { λ r. ⌜ r ≡ anyMeet (now (windows .entry)) (now (others .entry)) ⌝ }
 {
     for mapped in windows {
@@ -121,7 +118,7 @@ pub fn any_meet(windows: &[MappedWindow], others: &[MappedWindow]) -> bool
 }
 
 // Whether two windows of the list share a bit.
-pub fn pair_meets(windows: &[MappedWindow]) -> bool
+pub(crate) fn pair_meets(windows: &[MappedWindow]) -> bool
     ensures { λ r. ⌜ r ≡ pairMeets (now (windows .entry)) ⌝ }
 {
     for (i, mapped) in windows.iter().enumerate() {

@@ -49,6 +49,9 @@ fn free_rows<W: fmt::Write>(first: u32, end: u32, f: &mut fmt::Formatter<W>) -> 
         return Ok(());
     }
     let last = end - 1;
+    if first == last {
+        return writeln!(f, "byte {first} is free");
+    }
     writeln!(f, "bytes {first} to {last} are free")
 }
 

@@ -22,7 +22,6 @@ use plan_text::StationLine;
 use plan_text::expected::ExpectedDisplay;
 use std::fmt;
 use units::LinePosition;
-use units::LinePositionPartialEq;
 
 #[derive(Clone, Copy)]
 pub struct Rejected<'a, 'b> {

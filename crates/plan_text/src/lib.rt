@@ -1,9 +1,9 @@
 // A plan as text: what its lines say, and the plan that they make or why they make none.
 pub mod expected;
-pub mod keywords;
+mod keywords;
 pub mod reading;
 pub mod said;
-pub mod stages;
+mod stages;
 
 pub use expected::Expected;
 pub use reading::NamedPlan;

@@ -6,15 +6,11 @@ use crate::keywords::Keyword;
 use crate::keywords::keyword_of;
 use plan::PlannedStation;
 use plan::Window;
-use plan::windows::WindowDebug;
-use plan::windows::WindowPartialEq;
 use text::decimal;
 use units::ImageBit;
-use units::ImageBitDebug;
-use units::ImageBitPartialEq;
 
 // The fields of a station that its line has given so far.
-#[derive(Clone, Copy, Debug, PartialEq, Eq)]
+#[derive(Clone, Copy)]
 pub struct Fields {
     pub outputs: Option<Window>,
     pub inputs: Option<Window>,
@@ -22,7 +18,7 @@ pub struct Fields {
 }
 
 // Where in a line the next word stands.
-#[derive(Clone, Copy, Debug, PartialEq, Eq)]
+#[derive(Clone, Copy)]
 pub enum Stage {
     AtLineKind,
     AtImageBytes,

@@ -50,7 +50,7 @@ pub impl Countable for LinePosition as LinePositionCountable {
 }
 
 // So many units in a row. An empty span has no unit, wherever it begins.
-#[derive(Clone, Copy, Debug, PartialEq, Eq)]
+#[derive(Clone, Copy)]
 pub struct Span<U> {
     pub first: U,
     pub count: u32,

@@ -1,7 +1,8 @@
 use mathlib.Core.Path.{ap}
 use native.Mathlib.Omega.{arith}
 use Rattle.std.proofs.shelf.Lists.{at-drop-more, at-drop-all}
-use Rattle.plan.specs.Windows.{expectedCounter, bare}
+use Rattle.plan.specs.Stations.{bare}
+use Rattle.plan.specs.Counter.{expectedCounter}
 use Rattle.plan.proofs.plans.Plan.expected_counter.Needs as need
 
 pub loop-station-again : need.loop-station-again

@@ -1,7 +1,7 @@
 use mathlib.Core.Path.{_≡_, sym, subst, ap}
 use native.Mathlib.Omega.{arith}
 use lib.ListN.{length}
-use Rattle.plan.specs.Windows.{allWindows}
+use Rattle.plan.specs.Stations.{allWindows}
 use Rattle.plan.specs.Meaning.{Exclusive}
 use Rattle.plan.specs.Building.{imageBytes, stationsOf}
 use Rattle.plan.proofs.Exclusive.{exclusive}

@@ -1,7 +1,7 @@
 use mathlib.Core.Path.{sym}
-use Rattle.plan.specs.Windows.{stationsMeet, bare}
+use Rattle.plan.specs.Stations.{stationsMeet, bare}
 use Rattle.plan.proofs.Loops.{first-yes, first-no, first-end}
-use Rattle.plan.proofs.building.first_met.Needs as need
+use Rattle.plan.proofs.verdicts.first_met.Needs as need
 
 pub returns-then-meets : need.returns-then-meets
 returns-then-meets c = record {

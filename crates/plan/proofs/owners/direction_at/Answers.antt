@@ -6,7 +6,7 @@ use Rattle.std.specs.declared.option.Option.the-variants.{Some}
 use Rattle.std.proofs.shelf.Lists.{at-drop-more, at-drop-all}
 use Rattle.plan.specs.Windows.{noWindow}
 use Rattle.plan.specs.Owners.{directionAt}
-use Rattle.plan.proofs.reading.direction_at.Needs as need
+use Rattle.plan.proofs.owners.direction_at.Needs as need
 
 pub returns-then-has : need.returns-then-has
 returns-then-has c =
