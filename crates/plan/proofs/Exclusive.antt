@@ -88,18 +88,18 @@ shared : (ws : List MappedWindow) → pairMeets ws ≡ true → (i : ℕ) × (j 
 shared [] e = absurd (true≢false (sym e))
 shared (w ∷ ws) e =
     ⊎-elim (λ h.
-      let f = any-found (λ v. meet (bitsOf (w .window)) (bitsOf (v .window))) ws noWindow h in
-      let m = meet-decides (bitsOf (w .window)) (bitsOf (getD ws (f .0) noWindow .window)) .0 (f .2) in
-      (0, suc (f .0), m .0, omega arith, m .1, m .2)) (λ h.
-      let r = shared ws h in
-      (suc (r .0), suc (r .1), r .2, omega arith, r .4, r .5)) (or-cases (meetsAny (w .window) ws) (pairMeets ws) e)
+    let f = any-found (λ v. meet (bitsOf (w .window)) (bitsOf (v .window))) ws noWindow h in
+    let m = meet-decides (bitsOf (w .window)) (bitsOf (getD ws (f .0) noWindow .window)) .0 (f .2) in
+    (0, suc (f .0), m .0, omega arith, m .1, m .2)) (λ h.
+    let r = shared ws h in
+    (suc (r .0), suc (r .1), r .2, omega arith, r .4, r .5)) (or-cases (meetsAny (w .window) ws) (pairMeets ws) e)
 
 pub none-leaves : (bytes : ℕ) (ws : List MappedWindow) → Exclusive bytes ws → anyLeaves (imageBits bytes) ws ≡ false
 none-leaves bytes ws x =
     ⊎-elim (λ e.
-      let f = any-found (λ w. not (within (bitsOf (w .window)) (imageBits bytes))) ws noWindow e in
-      let w = bitsOf (getD ws (f .0) noWindow .window) in
-      absurd (both-ways (within w (imageBits bytes)) (not-true _ (f .2)) (within-decides w (imageBits bytes) .1 (λ k h. (omega arith, omega (arith, x .inside (f .0) k h)))))) (λ e. e) (cases-bool (anyLeaves (imageBits bytes) ws))
+    let f = any-found (λ w. not (within (bitsOf (w .window)) (imageBits bytes))) ws noWindow e in
+    let w = bitsOf (getD ws (f .0) noWindow .window) in
+    absurd (both-ways (within w (imageBits bytes)) (not-true _ (f .2)) (within-decides w (imageBits bytes) .1 (λ k h. (omega arith, omega (arith, x .inside (f .0) k h)))))) (λ e. e) (cases-bool (anyLeaves (imageBits bytes) ws))
 
 pub none-share : (bytes : ℕ) (ws : List MappedWindow) → Exclusive bytes ws → pairMeets ws ≡ false
 none-share bytes ws x =

@@ -98,7 +98,7 @@ module _ (bytes : ℕ) (ss : List PlannedStation) (s : PlannedStation) where
         fields = mapped-parts _ _ (b .0);
         inside = given-parts _ _ (c .0);
         met = sym (met-windows ss s) ∙ first-parts (λ t. stationsMeet t s) 0 ss (mapped-parts _ _ (d .0));
-        own = given-parts _ _ (d .1)
+        own = given-parts _ _ (d .1);
       }
 
   -- a station that the verdict passes keeps the plan as it has to be
@@ -109,7 +109,7 @@ module _ (bytes : ℕ) (ss : List PlannedStation) (s : PlannedStation) where
         few = omega (arith, length-push ss s);
         fields = any-append (λ t. isSome (fieldOutOfRange t)) ss (s ∷ []) ∙ or-from _ _ (kept .fields) (or-from _ _ (ap isSome (p .fields)) refl);
         inside = ap (anyLeaves (imageBits bytes)) (windows-push ss s) ∙ any-append _ (allWindows ss) (windows s) ∙ or-from _ _ (kept .inside) (p .inside);
-        apart = ap pairMeets (windows-push ss s) ∙ pair-append (allWindows ss) (windows s) ∙ or-from _ _ (kept .apart) (or-from _ _ (p .met) (p .own))
+        apart = ap pairMeets (windows-push ss s) ∙ pair-append (allWindows ss) (windows s) ∙ or-from _ _ (kept .apart) (or-from _ _ (p .met) (p .own));
       }
 
   -- a station that the verdict passes is sound
@@ -123,7 +123,7 @@ module _ (bytes : ℕ) (ss : List PlannedStation) (s : PlannedStation) where
         outputs = f .0;
         inputs = f .1;
         mailbox = f .2;
-        exclusive = exclusive bytes (allWindows (ss ++ s ∷ [])) (after .inside) (after .apart)
+        exclusive = exclusive bytes (allWindows (ss ++ s ∷ [])) (after .inside) (after .apart);
       }
 
   -- the verdict passes every sound station

@@ -46,8 +46,8 @@ direction-found : (ws : List MappedWindow) (k : ℕ) (d : Direction) → directi
 direction-found [] k d e = absurd (never (sym e))
 direction-found (w ∷ ws) k d e =
     ⊎-elim (λ yes. (0, has-decides (bitsOf (w .window)) k .0 yes, some-same (sym (cond-true _ _ _ yes) ∙ e))) (λ other.
-      let r = direction-found ws k d (sym (cond-false _ _ _ other) ∙ e) in
-      (suc (r .0), r .1, r .2)) (cases-bool (has (bitsOf (w .window)) k))
+    let r = direction-found ws k d (sym (cond-false _ _ _ other) ∙ e) in
+    (suc (r .0), r .1, r .2)) (cases-bool (has (bitsOf (w .window)) k))
 
 direction-none : (ws : List MappedWindow) (k : ℕ) → directionAt ws k ≡ None → (j : ℕ) → Owns ws j k → ⊥
 direction-none [] k e j o = omega arith
@@ -64,8 +64,8 @@ owner-found : (i : ℕ) (ss : List PlannedStation) (k : ℕ) (o : Owner) → own
 owner-found i [] k o e = absurd (never (sym e))
 owner-found i (s ∷ ss) k o e =
     ⊎-elim (λ h. (0, omega (arith, h .1), h .0)) (λ h.
-      let r = owner-found (i + 1) ss k o h in
-      (suc (r .0), omega (arith, r .1), r .2)) (here-or-later i (directionAt (windows s) k) (ownerFrom (i + 1) ss k) o e)
+    let r = owner-found (i + 1) ss k o h in
+    (suc (r .0), omega (arith, r .1), r .2)) (here-or-later i (directionAt (windows s) k) (ownerFrom (i + 1) ss k) o e)
 
 no-bits : (j k : ℕ) → Owns (windows bare) j k → ⊥
 no-bits zero k o = omega arith
@@ -124,8 +124,10 @@ one-owner ss e k None is = λ p b. owner-none 0 ss k (sym is) (p .position .0) (
 one-owner ss e k (Some o) is =
     let f = owner-found 0 ss k o (sym is) in
     let at : f .0 ≡ o .position .0 = omega (arith, f .1) in
-    let found = direction-found (windows (getD ss (o .position .0) bare)) k (o .direction) (ap (λ m. directionAt (windows (getD ss m bare)) k) (sym at) ∙ f .2) in
-    (found, λ p b.
-      let same = same-window ss e (p .position .0) (o .position .0) (b .0) (found .0) k (b .1) (found .1) in
-      let turned : p .direction ≡ o .direction = sym (b .2) ∙ (λ t. getD (windows (getD ss (same .0 t) bare)) (same .1 t) noWindow .direction) ∙ found .2 in
-      λ t. record { position = record { 0 = same .0 t }; direction = turned t })
+    let found = direction-found (windows (getD ss (o .position .0) bare)) k (o .direction) (ap (λ m. directionAt (windows (getD ss m bare)) k) (sym at) ∙ f .2) in (
+      found,
+      λ p b.
+          let same = same-window ss e (p .position .0) (o .position .0) (b .0) (found .0) k (b .1) (found .1) in
+          let turned : p .direction ≡ o .direction = sym (b .2) ∙ (λ t. getD (windows (getD ss (same .0 t) bare)) (same .1 t) noWindow .direction) ∙ found .2 in
+          λ t. record { position = record { 0 = same .0 t }; direction = turned t },
+    )

@@ -20,7 +20,7 @@ imageBits bytes = record { first = 0; count = 8 * bytes }
 abbrev pub common : Range → Range → Range
 common x y = record {
   first = max (x .first) (y .first);
-  count = min (x .first + x .count) (y .first + y .count) - max (x .first) (y .first)
+  count = min (x .first + x .count) (y .first + y .count) - max (x .first) (y .first);
 }
 
 -- what stands past the end of a list of windows: no bits

@@ -30,7 +30,10 @@ impl Plan {
         if !image_in_range(bytes) {
             return Err(PlanFault::ImageLength);
         }
-        Ok(Plan { bytes, stations: Vec::new(heap) })
+        Ok(Plan {
+            bytes,
+            stations: Vec::new(heap),
+        })
     }
 
     // Adds a station behind the others, or refuses it and leaves the plan as it was.
@@ -56,7 +59,10 @@ impl Plan {
     pub fn image(&self) -> Span<ImageBit>
         ensures { λ r. ⌜ spanned (λ unit. unit .0) r ≡ imageBits (imageBytes (now (self .entry))) ⌝ }
     {
-        Span { first: ImageBit(0), count: 8 * self.image_bytes() }
+        Span {
+            first: ImageBit(0),
+            count: 8 * self.image_bytes(),
+        }
     }
 
     // The stations, by position. Each of their windows lies in the image, and no bit of it belongs to two windows.

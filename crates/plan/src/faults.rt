@@ -23,11 +23,19 @@ pub enum PlanFault {
     ImageLength,
     // there is nothing to bring up
     NoStations,
-    TooManyStations { position: LinePosition },
-    FieldOutOfRange { position: LinePosition, field: StationField },
+    TooManyStations {
+        position: LinePosition,
+    },
+    FieldOutOfRange {
+        position: LinePosition,
+        field: StationField,
+    },
     // A window of the later station leaves the image or shares a bit with one of the earlier;
     // where the image or the station's own windows are at fault, both are the station itself.
-    WindowConflict { earlier: LinePosition, later: LinePosition },
+    WindowConflict {
+        earlier: LinePosition,
+        later: LinePosition,
+    },
 }
 
 #[derive(Clone, Copy, Debug, PartialEq, Eq)]
@@ -44,9 +52,9 @@ impl PlanFault {
         match *self {
             PlanFault::ImageLength => 6,
             PlanFault::NoStations => 6,
-            PlanFault::TooManyStations { position: _ } => 6,
-            PlanFault::FieldOutOfRange { position: _, field: _ } => 6,
-            PlanFault::WindowConflict { earlier: _, later: _ } => 7,
+            PlanFault::TooManyStations { .. } => 6,
+            PlanFault::FieldOutOfRange { .. } => 6,
+            PlanFault::WindowConflict { .. } => 7,
         }
     }
 
@@ -58,8 +66,8 @@ impl PlanFault {
             PlanFault::ImageLength => 0,
             PlanFault::NoStations => 0,
             PlanFault::TooManyStations { position } => position.0,
-            PlanFault::FieldOutOfRange { position, field: _ } => position.0,
-            PlanFault::WindowConflict { earlier: _, later } => later.0,
+            PlanFault::FieldOutOfRange { position, .. } => position.0,
+            PlanFault::WindowConflict { later, .. } => later.0,
         }
     }
 }

@@ -6,11 +6,13 @@ ghost use Rattle.plan.specs.Limits.{imageInRange, mailboxInRange};
 pub const MAX_STATIONS: usize = 32;
 
 pub const MIN_IMAGE_BYTES: u32 = 1;
+
 pub const MAX_IMAGE_BYTES: u32 = 1024;
 
 pub const MAX_WINDOW_BITS: u32 = 512;
 
 pub const MIN_MAILBOX_BYTES: u32 = 16;
+
 pub const MAX_MAILBOX_BYTES: u32 = 128;
 
 pub(crate) fn image_in_range(bytes: u32) -> bool

@@ -12,8 +12,14 @@ impl PlannedStation {
         ensures { λ r. ⌜ r ≡ windows (now (self .entry)) ⌝ }
     {
         [
-            MappedWindow { direction: Direction::Output, window: self.outputs() },
-            MappedWindow { direction: Direction::Input, window: self.inputs() },
+            MappedWindow {
+                direction: Direction::Output,
+                window: self.outputs(),
+            },
+            MappedWindow {
+                direction: Direction::Input,
+                window: self.inputs(),
+            },
         ]
     }
 

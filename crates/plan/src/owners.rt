@@ -36,7 +36,10 @@ impl Plan {
     {
         for (i, station) in self.stations.iter().enumerate() {
             if let Some(direction) = direction_at(&station.windows(), bit) {
-                return Some(Owner { position: LinePosition(i as u16), direction });
+                return Some(Owner {
+                    position: LinePosition(i as u16),
+                    direction,
+                });
             }
         }
         None

@@ -15,26 +15,39 @@ impl PlannedStation {
     pub fn new() -> PlannedStation
         ensures { λ r. ⌜ r ≡ bare ⌝ }
     {
-        PlannedStation { outputs: Window::NONE, inputs: Window::NONE, mailbox: 0 }
+        PlannedStation {
+            outputs: Window::NONE,
+            inputs: Window::NONE,
+            mailbox: 0,
+        }
     }
 
     pub fn with_outputs(self, window: Window) -> PlannedStation
         ensures { λ r. ⌜ r ≡ withOutputs self window ⌝ }
     {
-        PlannedStation { outputs: window, ..self }
+        PlannedStation {
+            outputs: window,
+            ..self
+        }
     }
 
     pub fn with_inputs(self, window: Window) -> PlannedStation
         ensures { λ r. ⌜ r ≡ withInputs self window ⌝ }
     {
-        PlannedStation { inputs: window, ..self }
+        PlannedStation {
+            inputs: window,
+            ..self
+        }
     }
 
     // The length in bytes of both its mailboxes; 0 for none.
     pub fn with_mailbox(self, bytes: u32) -> PlannedStation
         ensures { λ r. ⌜ r ≡ withMailbox self bytes ⌝ }
     {
-        PlannedStation { mailbox: bytes, ..self }
+        PlannedStation {
+            mailbox: bytes,
+            ..self
+        }
     }
 
     pub fn outputs(&self) -> Window

@@ -57,17 +57,29 @@ impl Plan {
             return Some(PlanFault::TooManyStations { position: here });
         }
         if let Some(field) = station.field_out_of_range() {
-            return Some(PlanFault::FieldOutOfRange { position: here, field });
+            return Some(PlanFault::FieldOutOfRange {
+                position: here,
+                field,
+            });
         }
         let windows = station.windows();
         if any_leaves(&windows, &self.image()) {
-            return Some(PlanFault::WindowConflict { earlier: here, later: here });
+            return Some(PlanFault::WindowConflict {
+                earlier: here,
+                later: here,
+            });
         }
         if let Some(i) = first_met(self.stations.as_slice(), station) {
-            return Some(PlanFault::WindowConflict { earlier: LinePosition(i as u16), later: here });
+            return Some(PlanFault::WindowConflict {
+                earlier: LinePosition(i as u16),
+                later: here,
+            });
         }
         if pair_meets(&windows) {
-            return Some(PlanFault::WindowConflict { earlier: here, later: here });
+            return Some(PlanFault::WindowConflict {
+                earlier: here,
+                later: here,
+            });
         }
         None
     }

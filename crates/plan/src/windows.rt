@@ -33,12 +33,18 @@ pub struct MappedWindow {
 }
 
 impl Window {
-    pub const NONE: Window = Window { first: ImageBit(0), bits: 0 };
+    pub const NONE: Window = Window {
+        first: ImageBit(0),
+        bits: 0,
+    };
 
     pub(crate) fn span(&self) -> Span<ImageBit>
         ensures { λ r. ⌜ spanned (λ unit. unit .0) r ≡ bitsOf (now (self .entry)) ⌝ }
     {
-        Span { first: self.first, count: self.bits }
+        Span {
+            first: self.first,
+            count: self.bits,
+        }
     }
 
     // Whether it has few enough bits and, with none, begins at 0.
@@ -77,7 +83,10 @@ impl Window {
         let mine = u64::from(self.first.0) + u64::from(self.bits);
         let theirs = u64::from(other.first.0) + u64::from(other.bits);
         let bits = mine.min(theirs).saturating_sub(u64::from(first)) as u32;
-        Window { first: ImageBit(first), bits }
+        Window {
+            first: ImageBit(first),
+            bits,
+        }
     }
 
     // Whether it shares a bit with one of the others.

@@ -17,11 +17,18 @@ pub struct Accepted<'a, 'b> {
     pub named: &'b NamedPlan<'a>,
 }
 
-fn show_station<W: fmt::Write>(place: Place<'_>, station: &PlannedStation, f: &mut fmt::Formatter<W>) -> fmt::Result {
+fn show_station<W: fmt::Write>(
+    place: Place<'_>,
+    station: &PlannedStation,
+    f: &mut fmt::Formatter<W>,
+) -> fmt::Result {
     write!(f, "{place}:")?;
     for mapped in station.windows() {
         let position = LinePosition(u16::try_from(place.position).unwrap_or(u16::MAX));
-        let sign = sign_of(Some(Owner { position, direction: mapped.direction }));
+        let sign = sign_of(Some(Owner {
+            position,
+            direction: mapped.direction,
+        }));
         if mapped.window.bits > 0 {
             let window = Mapped(mapped);
             write!(f, " {window} as {sign},")?;
@@ -46,7 +53,10 @@ pub impl fmt::Display for Accepted<'_, '_> as AcceptedDisplay {
         let bits = bytes.saturating_mul(8);
         writeln!(f, "expected working counter: {counter}")?;
         writeln!(f, "free bits: {free} of {bits}")?;
-        writeln!(f, "image of {bytes} bytes, lowest bit of each byte first, `.` for a free bit:")?;
+        writeln!(
+            f,
+            "image of {bytes} bytes, lowest bit of each byte first, `.` for a free bit:"
+        )?;
         let picture = Picture { plan };
         write!(f, "{picture}")
     }

@@ -1,5 +1,6 @@
 // What is said of a plan: its stations and a picture of its image, or why it is refused.
 pub mod accepted;
+mod conflicts;
 pub mod pictures;
 pub mod places;
 pub mod refused;

@@ -9,29 +9,28 @@ use plan::Direction;
 use plan::Owner;
 
 // By position: letters, and then what is left of the signs that are easy to tell apart.
-const OUTPUT_SIGNS: [char; 32] = [
-    'A', 'B', 'C', 'D', 'E', 'F', 'G', 'H', 'I', 'J', 'K', 'L', 'M', 'N', 'O', 'P', 'Q', 'R', 'S', 'T', 'U', 'V', 'W',
-    'X', 'Y', 'Z', '1', '2', '3', '4', '5', '6',
-];
-const INPUT_SIGNS: [char; 32] = [
-    'a', 'b', 'c', 'd', 'e', 'f', 'g', 'h', 'i', 'j', 'k', 'l', 'm', 'n', 'o', 'p', 'q', 'r', 's', 't', 'u', 'v', 'w',
-    'x', 'y', 'z', '!', '@', '$', '%', '&', '*',
-];
+const OUTPUT_SIGNS: &[u8; 32] = b"ABCDEFGHIJKLMNOPQRSTUVWXYZ123456";
+
+const INPUT_SIGNS: &[u8; 32] = b"abcdefghijklmnopqrstuvwxyz!@$%&*";
 
 pub const FREE: char = '.';
 
-fn sign_at(signs: &[char], position: usize) -> char
+fn sign_at(signs: &[u8], position: usize) -> char
     ensures { λ r. ⌜ r ≡ getD (now (signs .entry)) position 63 ⌝ }
 {
-    if position < signs.len() { signs[position] } else { '?' }
+    if position < signs.len() {
+        char::from(signs[position])
+    } else {
+        '?'
+    }
 }
 
 fn sign_in(owner: Owner) -> char
     ensures { λ r. ⌜ r ≡ sign (Some owner) ⌝ }
 {
     match owner.direction {
-        Direction::Output => sign_at(&OUTPUT_SIGNS, usize::from(owner.position.0)),
-        Direction::Input => sign_at(&INPUT_SIGNS, usize::from(owner.position.0)),
+        Direction::Output => sign_at(OUTPUT_SIGNS, usize::from(owner.position.0)),
+        Direction::Input => sign_at(INPUT_SIGNS, usize::from(owner.position.0)),
     }
 }
 

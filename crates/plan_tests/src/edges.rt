@@ -15,7 +15,10 @@ use units::ImageBit;
 use units::LinePosition;
 
 fn window(first: u32, bits: u32) -> Window {
-    Window { first: ImageBit(first), bits }
+    Window {
+        first: ImageBit(first),
+        bits,
+    }
 }
 
 fn outputs(first: u32, bits: u32) -> PlannedStation {
@@ -31,11 +34,17 @@ fn mailbox(bytes: u32) -> PlannedStation {
 }
 
 fn out_of_range(position: u16, field: StationField) -> PlanError {
-    PlanError::Refused(PlanFault::FieldOutOfRange { position: LinePosition(position), field })
+    PlanError::Refused(PlanFault::FieldOutOfRange {
+        position: LinePosition(position),
+        field,
+    })
 }
 
 fn conflict(earlier: u16, later: u16) -> PlanError {
-    PlanError::Refused(PlanFault::WindowConflict { earlier: LinePosition(earlier), later: LinePosition(later) })
+    PlanError::Refused(PlanFault::WindowConflict {
+        earlier: LinePosition(earlier),
+        later: LinePosition(later),
+    })
 }
 
 // The answer to one station in a new plan for 1,024 bytes.
@@ -59,18 +68,33 @@ fn images_have_1_to_1024_bytes(rt: LibcRuntime) -> Result<(), Fail> {
 fn windows_have_at_most_512_bits(rt: LibcRuntime) -> Result<(), Fail> {
     let heap = rt.alloc();
     check_eq(alone(heap, outputs(0, 512))?, Ok(()))?;
-    check_eq(alone(heap, outputs(0, 513))?, Err(out_of_range(0, StationField::Outputs)))?;
+    check_eq(
+        alone(heap, outputs(0, 513))?,
+        Err(out_of_range(0, StationField::Outputs)),
+    )?;
     check_eq(alone(heap, inputs(7680, 512))?, Ok(()))?;
-    check_eq(alone(heap, inputs(0, 513))?, Err(out_of_range(0, StationField::Inputs)))?;
-    check_eq(alone(heap, inputs(0, 4294967295))?, Err(out_of_range(0, StationField::Inputs)))
+    check_eq(
+        alone(heap, inputs(0, 513))?,
+        Err(out_of_range(0, StationField::Inputs)),
+    )?;
+    check_eq(
+        alone(heap, inputs(0, 4294967295))?,
+        Err(out_of_range(0, StationField::Inputs)),
+    )
 }
 
 #[test]
 fn no_bits_begin_at_bit_0(rt: LibcRuntime) -> Result<(), Fail> {
     let heap = rt.alloc();
     check_eq(alone(heap, outputs(0, 0))?, Ok(()))?;
-    check_eq(alone(heap, outputs(1, 0))?, Err(out_of_range(0, StationField::Outputs)))?;
-    check_eq(alone(heap, inputs(1, 0))?, Err(out_of_range(0, StationField::Inputs)))
+    check_eq(
+        alone(heap, outputs(1, 0))?,
+        Err(out_of_range(0, StationField::Outputs)),
+    )?;
+    check_eq(
+        alone(heap, inputs(1, 0))?,
+        Err(out_of_range(0, StationField::Inputs)),
+    )
 }
 
 #[test]
@@ -79,9 +103,18 @@ fn mailboxes_have_16_to_128_bytes(rt: LibcRuntime) -> Result<(), Fail> {
     check_eq(alone(heap, mailbox(0))?, Ok(()))?;
     check_eq(alone(heap, mailbox(16))?, Ok(()))?;
     check_eq(alone(heap, mailbox(128))?, Ok(()))?;
-    check_eq(alone(heap, mailbox(1))?, Err(out_of_range(0, StationField::Mailbox)))?;
-    check_eq(alone(heap, mailbox(15))?, Err(out_of_range(0, StationField::Mailbox)))?;
-    check_eq(alone(heap, mailbox(129))?, Err(out_of_range(0, StationField::Mailbox)))
+    check_eq(
+        alone(heap, mailbox(1))?,
+        Err(out_of_range(0, StationField::Mailbox)),
+    )?;
+    check_eq(
+        alone(heap, mailbox(15))?,
+        Err(out_of_range(0, StationField::Mailbox)),
+    )?;
+    check_eq(
+        alone(heap, mailbox(129))?,
+        Err(out_of_range(0, StationField::Mailbox)),
+    )
 }
 
 #[test]
@@ -90,7 +123,9 @@ fn a_plan_has_at_most_32_stations(rt: LibcRuntime) -> Result<(), Fail> {
     for _ in 0..32 {
         plan.add(mailbox(16))?;
     }
-    let fault = PlanFault::TooManyStations { position: LinePosition(32) };
+    let fault = PlanFault::TooManyStations {
+        position: LinePosition(32),
+    };
     check_eq(plan.add(mailbox(16)), Err(PlanError::Refused(fault)))?;
     check_eq(fault.number(), 6)?;
     check_eq(fault.place(), 32)?;
@@ -128,15 +163,27 @@ fn the_first_station_met_is_named(rt: LibcRuntime) -> Result<(), Fail> {
     plan.add(outputs(0, 8))?;
     plan.add(inputs(8, 8))?;
     plan.add(outputs(16, 8))?;
-    check_eq(plan.add(outputs(23, 2).with_inputs(window(15, 1))), Err(conflict(1, 3)))?;
+    check_eq(
+        plan.add(outputs(23, 2).with_inputs(window(15, 1))),
+        Err(conflict(1, 3)),
+    )?;
     // its own windows come last
-    check_eq(plan.add(outputs(23, 2).with_inputs(window(24, 2))), Err(conflict(2, 3)))?;
-    check_eq(plan.add(outputs(24, 2).with_inputs(window(25, 2))), Err(conflict(3, 3)))?;
+    check_eq(
+        plan.add(outputs(23, 2).with_inputs(window(24, 2))),
+        Err(conflict(2, 3)),
+    )?;
+    check_eq(
+        plan.add(outputs(24, 2).with_inputs(window(25, 2))),
+        Err(conflict(3, 3)),
+    )?;
     check_eq(conflict_place(2, 3), 3)
 }
 
 fn conflict_place(earlier: u16, later: u16) -> u16 {
-    PlanFault::WindowConflict { earlier: LinePosition(earlier), later: LinePosition(later) }.place()
+    PlanFault::WindowConflict {
+        earlier: LinePosition(earlier),
+        later: LinePosition(later),
+    }.place()
 }
 
 #[test]

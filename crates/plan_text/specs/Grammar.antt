@@ -35,7 +35,7 @@ abbrev pub toldStation : Fields → PlannedStation
 toldStation f = record {
   outputs = valueOr (f .outputs) (window (bit 0) 0);
   inputs = valueOr (f .inputs) (window (bit 0) 0);
-  mailbox = valueOr (f .mailbox) 0
+  mailbox = valueOr (f .mailbox) 0;
 }
 
 -- `image` or `station`

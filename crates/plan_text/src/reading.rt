@@ -27,12 +27,24 @@ pub struct NamedPlan<'a> {
 #[derive(Drop)]
 pub enum ReadError<'a> {
     // a line, counted from 1, that cannot be read
-    Unread { line: usize, expected: Expected },
-    ImageRefused { bytes: u32, fault: PlanFault },
+    Unread {
+        line: usize,
+        expected: Expected,
+    },
+    ImageRefused {
+        bytes: u32,
+        fault: PlanFault,
+    },
     // with the plan as it was before that station
-    StationRefused { fault: PlanFault, before: NamedPlan<'a>, refused: StationLine<'a> },
+    StationRefused {
+        fault: PlanFault,
+        before: NamedPlan<'a>,
+        refused: StationLine<'a>,
+    },
     // there is no station in the text
-    Empty { fault: PlanFault },
+    Empty {
+        fault: PlanFault,
+    },
     NoMemory,
 }
 
@@ -48,7 +60,12 @@ impl<'a> NamedPlan<'a> {
 }
 
 // The lines below the image line, of which the last read has that number.
-fn read_stations<'a>(heap: Global, bytes: u32, mut lines: Lines<'a>, last: usize) -> Result<NamedPlan<'a>, ReadError<'a>>
+fn read_stations<'a>(
+    heap: Global,
+    bytes: u32,
+    mut lines: Lines<'a>,
+    last: usize,
+) -> Result<NamedPlan<'a>, ReadError<'a>>
     requires { ⌜ last + length (linesLeft lines) < 2 ^ 64 ⌝ }
     ensures { λ r. ⌜ Answered (unless (imageVerdict bytes) (imageRefused bytes) (stationsFrom (last + 1) bytes [] [] (linesLeft (lines .entry)))) r ⌝ }
 {
@@ -56,18 +73,31 @@ fn read_stations<'a>(heap: Global, bytes: u32, mut lines: Lines<'a>, last: usize
         Ok(plan) => plan,
         Err(fault) => return Err(ReadError::ImageRefused { bytes, fault }),
     };
-    let mut named = NamedPlan { plan, names: Vec::new(heap) };
+    let mut named = NamedPlan {
+        plan,
+        names: Vec::new(heap),
+    };
     let mut number = last;
     while let Some(line) = lines.next_line() {
         number += 1;
         match read_line(line) {
-            Err(expected) => return Err(ReadError::Unread { line: number, expected }),
+            Err(expected) => return Err(ReadError::Unread {
+                line: number,
+                expected,
+            }),
             Ok(Line::Blank) => {}
-            Ok(Line::Image { bytes: _ }) => return Err(ReadError::Unread { line: number, expected: Expected::OneImage }),
+            Ok(Line::Image { bytes: _ }) => return Err(ReadError::Unread {
+                line: number,
+                expected: Expected::OneImage,
+            }),
             Ok(Line::Station(told)) => match named.admit(told) {
                 Ok(()) => {}
                 Err(PlanError::Refused(fault)) => {
-                    return Err(ReadError::StationRefused { fault, before: named, refused: told });
+                    return Err(ReadError::StationRefused {
+                        fault,
+                        before: named,
+                        refused: told,
+                    });
                 }
                 Err(PlanError::Memory) => return Err(ReadError::NoMemory),
             },
@@ -88,11 +118,19 @@ pub fn read_plan(heap: Global, text: &[u8]) -> Result<NamedPlan<'_>, ReadError<'
     while let Some(line) = lines.next_line() {
         number += 1;
         match read_line(line) {
-            Err(expected) => return Err(ReadError::Unread { line: number, expected }),
+            Err(expected) => return Err(ReadError::Unread {
+                line: number,
+                expected,
+            }),
             Ok(Line::Blank) => {}
             Ok(Line::Image { bytes }) => return read_stations(heap, bytes, lines, number),
-            Ok(Line::Station(_)) => return Err(ReadError::Unread { line: number, expected: Expected::ImageFirst }),
+            Ok(Line::Station(_)) => return Err(ReadError::Unread {
+                line: number,
+                expected: Expected::ImageFirst,
+            }),
         }
     }
-    Err(ReadError::Empty { fault: PlanFault::NoStations })
+    Err(ReadError::Empty {
+        fault: PlanFault::NoStations,
+    })
 }

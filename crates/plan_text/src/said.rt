@@ -32,8 +32,14 @@ fn ended<'a>(stage: Stage, name: Option<&'a [u8]>) -> Result<Line<'a>, Expected>
     match stage {
         Stage::AtLineKind => Ok(Line::Blank),
         Stage::AfterImage { bytes } => Ok(Line::Image { bytes }),
-        Stage::AtField(fields) => Ok(Line::Station(StationLine { station: fields.station(), name })),
-        Stage::AfterName(fields) => Ok(Line::Station(StationLine { station: fields.station(), name })),
+        Stage::AtField(fields) => Ok(Line::Station(StationLine {
+            station: fields.station(),
+            name,
+        })),
+        Stage::AfterName(fields) => Ok(Line::Station(StationLine {
+            station: fields.station(),
+            name,
+        })),
         Stage::AtImageBytes => Err(Expected::ImageBytes),
         Stage::AtOutputsFirst(_) => Err(Expected::FirstBit),
         Stage::AtOutputsCount(_, _) => Err(Expected::BitCount),

@@ -34,7 +34,11 @@ pub enum Stage {
 }
 
 impl Fields {
-    pub const NONE: Fields = Fields { outputs: None, inputs: None, mailbox: None };
+    pub const NONE: Fields = Fields {
+        outputs: None,
+        inputs: None,
+        mailbox: None,
+    };
 
     // What is not given is absent.
     pub fn station(&self) -> PlannedStation
@@ -57,7 +61,11 @@ impl Fields {
             Some(Keyword::Name) => (Stage::AtName(self), false),
             _ => return Err(Expected::Field),
         };
-        if given { Err(Expected::FieldOnce) } else { Ok(stage) }
+        if given {
+            Err(Expected::FieldOnce)
+        } else {
+            Ok(stage)
+        }
     }
 }
 
@@ -97,7 +105,10 @@ impl Stage {
             }
             Stage::AtOutputsCount(fields, first) => {
                 let bits = decimal(word).ok_or(Expected::BitCount)?;
-                Ok(Stage::AtField(Fields { outputs: Some(Window { first, bits }), ..fields }))
+                Ok(Stage::AtField(Fields {
+                    outputs: Some(Window { first, bits }),
+                    ..fields
+                }))
             }
             Stage::AtInputsFirst(fields) => {
                 let first = decimal(word).ok_or(Expected::FirstBit)?;
@@ -105,11 +116,17 @@ impl Stage {
             }
             Stage::AtInputsCount(fields, first) => {
                 let bits = decimal(word).ok_or(Expected::BitCount)?;
-                Ok(Stage::AtField(Fields { inputs: Some(Window { first, bits }), ..fields }))
+                Ok(Stage::AtField(Fields {
+                    inputs: Some(Window { first, bits }),
+                    ..fields
+                }))
             }
             Stage::AtMailboxBytes(fields) => {
                 let bytes = decimal(word).ok_or(Expected::MailboxBytes)?;
-                Ok(Stage::AtField(Fields { mailbox: Some(bytes), ..fields }))
+                Ok(Stage::AtField(Fields {
+                    mailbox: Some(bytes),
+                    ..fields
+                }))
             }
             Stage::AtName(fields) => Ok(Stage::AfterName(fields)),
             Stage::AfterImage { bytes: _ } => Err(Expected::EndOfLine),

@@ -77,7 +77,8 @@ impl<U: Countable> Span<U> {
         ensures value { λ r. ⌜ r ≡ within (spanned (U·Countable .count) (now (self .entry))) (spanned (U·Countable .count) (now (other .entry))) ⌝ }
         ensures means { λ r. ⌜ Decides r (Within (spanned (U·Countable .count) (now (self .entry))) (spanned (U·Countable .count) (now (other .entry)))) ⌝ }
     {
-        self.count == 0 || (other.first.number() <= self.first.number() && self.end() <= other.end())
+        self.count == 0
+            || (other.first.number() <= self.first.number() && self.end() <= other.end())
     }
 
     // Whether some unit is a unit of both.

@@ -6,7 +6,7 @@ use Rattle.plan.proofs.verdicts.first_met.Needs as need
 pub returns-then-meets : need.returns-then-meets
 returns-then-meets c = record {
   value = sym (first-yes (λ t. stationsMeet t (c .args .new .now)) (c .args .stations .now) (c .loop-i .i) bare (c .loop-i-test .taken) (sym (c .if-meets .ensures tt)) (c .loop-i .inv));
-  within = c .loop-i-test .taken
+  within = c .loop-i-test .taken;
 }
 
 pub loop-i-again : need.loop-i-again
@@ -16,5 +16,5 @@ loop-i-again c =
 pub returns : need.returns
 returns c = record {
   value = sym (first-end (λ t. stationsMeet t (c .args .new .now)) (c .args .stations .now) (c .loop-i .i) bare (c .loop-i-test .left) (c .loop-i .inv));
-  within = tt
+  within = tt;
 }

@@ -12,10 +12,10 @@ pub returns-in-Some : need.returns-in-Some
 returns-in-Some c = record {
   done = search needs;
   exact = λ h.
-    let none = complete (imageBytes (c .args .self .now)) (stationsOf (c .args .self .now)) (c .args .station) h in
-    let some = c .in-Some .ensures tt in
-    let z : _≡_ {A = ℕ} 0 1 = cc in
-    absurd (omega arith)
+      let none = complete (imageBytes (c .args .self .now)) (stationsOf (c .args .self .now)) (c .args .station) h in
+      let some = c .in-Some .ensures tt in
+      let z : _≡_ {A = ℕ} 0 1 = cc in
+      absurd (omega arith);
 }
 
 pub ghost-self : need.ghost-self
@@ -27,5 +27,5 @@ ghost-self c =
 pub returns : need.returns
 returns c = record {
   done = search needs;
-  exact = sound (imageBytes (c .args .self .now)) (stationsOf (c .args .self .now)) (c .args .station) (kept (c .args .self .now)) (sym (c .fault-of .ensures) ∙ c .in-rest .is)
+  exact = sound (imageBytes (c .args .self .now)) (stationsOf (c .args .self .now)) (c .args .station) (kept (c .args .self .now)) (sym (c .fault-of .ensures) ∙ c .in-rest .is);
 }

@@ -12,6 +12,6 @@ loop-bit-again c =
     let test = ap isSome (sym (c .owner .ensures .value)) ∙ c .is-none .ensures in
     let more = free-step (stationsOf (c .args .self .now)) (c .loop-bit .bit) in
     elim (c .if-is-none .came) [
-      then-is-none w ↦ (omega (arith, w .free-is), omega (arith, w .free-is, more false (test ∙ ap not (w .if-is-none .taken))))
-    | else-is-none w ↦ (omega (arith, w .free-is), omega (arith, w .free-is, more true (test ∙ ap not (w .if-is-none .left))))
+      | then-is-none w ↦ (omega (arith, w .free-is), omega (arith, w .free-is, more false (test ∙ ap not (w .if-is-none .taken))))
+      | else-is-none w ↦ (omega (arith, w .free-is), omega (arith, w .free-is, more true (test ∙ ap not (w .if-is-none .left))))
     ]

@@ -14,5 +14,5 @@ returns c =
     record {
       value = e;
       few = omega (arith, ap length e, plan .few);
-      exclusive = subst (λ ss. Exclusive (imageBytes plan) (allWindows ss)) (sym e) (exclusive (imageBytes plan) (allWindows (stationsOf plan)) (plan .inside) (plan .apart))
+      exclusive = subst (λ ss. Exclusive (imageBytes plan) (allWindows ss)) (sym e) (exclusive (imageBytes plan) (allWindows (stationsOf plan)) (plan .inside) (plan .apart));
     }
