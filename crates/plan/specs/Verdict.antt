@@ -37,7 +37,7 @@ firstMet ss s = firstFrom 0 (λ t. stationsMeet t s) ss
 abbrev pub imageVerdict : ℕ → Option PlanFault
 imageVerdict bytes = given (not (imageInRange bytes)) ImageLength
 
--- what forbids a plan of these stations to be brought up
+-- a plan that is to be used has a station
 abbrev pub emptyVerdict : List PlannedStation → Option PlanFault
 emptyVerdict [] = Some NoStations
 emptyVerdict (s ∷ ss) = None

@@ -1,6 +1,6 @@
 // Making a plan, adding to it, and what it holds.
 ghost use mathlib.Core.Path.{_≡_};
-ghost use mathlib.Core.Bool.{true};
+ghost use mathlib.Core.Bool.{true, false};
 ghost use Prim.Native.Nat.{_≤_};
 ghost use lib.ListN.{length};
 ghost use Rattle.std.specs.Results.{Cases};
@@ -9,7 +9,7 @@ ghost use Rattle.plan.specs.declared.faults.PlanError.the-variants.{Memory};
 ghost use Rattle.plan.specs.Limits.{maxStations, imageInRange};
 ghost use Rattle.plan.specs.Windows.{imageBits};
 ghost use Rattle.plan.specs.Stations.{allWindows};
-ghost use Rattle.plan.specs.Verdict.{emptyVerdict};
+ghost use Rattle.plan.specs.Verdict.{anyOutOfRange, emptyVerdict};
 ghost use Rattle.plan.specs.Meaning.{Exclusive, Sound};
 ghost use Rattle.plan.specs.Building.{imageBytes, stationsOf, Started, Added};
 use crate::faults::ErrorFromNoRoom;
@@ -69,12 +69,13 @@ impl Plan {
     pub fn stations(&self) -> &[PlannedStation]
         ensures value { λ r. ⌜ now r ≡ stationsOf (now (self .entry)) ⌝ }
         ensures few { λ r. ⌜ length (now r) ≤ maxStations ⌝ }
+        ensures fields { λ r. ⌜ anyOutOfRange (now r) ≡ false ⌝ }
         ensures exclusive { λ r. ⌜ Exclusive (imageBytes (now (self .entry))) (allWindows (now r)) ⌝ }
     {
         self.stations.as_slice()
     }
 
-    // Refuses a plan with no station.
+    // The fault of a plan with no station.
     pub fn fault_if_empty(&self) -> Option<PlanFault>
         ensures { λ r. ⌜ r ≡ emptyVerdict (stationsOf (now (self .entry))) ⌝ }
     {

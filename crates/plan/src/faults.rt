@@ -21,7 +21,7 @@ pub enum StationField {
 pub enum PlanFault {
     // the image has no byte or too many
     ImageLength,
-    // there is nothing to bring up
+    // a plan that is to be used has one at least
     NoStations,
     TooManyStations {
         position: LinePosition,

@@ -4,6 +4,9 @@ ghost use Prim.Native.Nat.{ℕ, _+_};
 ghost use Rattle.std.specs.Orderings.{Decides};
 ghost use Rattle.units.specs.Spans.{spanned, has, Has, within, Within, meet, Meet};
 
+#[cfg(test)]
+mod tests;
+
 // What is counted by a number of its own.
 pub trait Countable {
     // which of its kind it is

@@ -1,7 +1,8 @@
-use mathlib.Core.Path.{_≡_, sym, subst, ap}
+use mathlib.Core.Path.{_≡_, sym, subst, ap, _∙_}
 use native.Mathlib.Omega.{arith}
 use lib.ListN.{length}
 use Rattle.plan.specs.Stations.{allWindows}
+use Rattle.plan.specs.Verdict.{anyOutOfRange}
 use Rattle.plan.specs.Meaning.{Exclusive}
 use Rattle.plan.specs.Building.{imageBytes, stationsOf}
 use Rattle.plan.proofs.Exclusive.{exclusive}
@@ -14,5 +15,6 @@ returns c =
     record {
       value = e;
       few = omega (arith, ap length e, plan .few);
+      fields = ap anyOutOfRange e ∙ plan .fields;
       exclusive = subst (λ ss. Exclusive (imageBytes plan) (allWindows ss)) (sym e) (exclusive (imageBytes plan) (allWindows (stationsOf plan)) (plan .inside) (plan .apart));
     }
