@@ -55,7 +55,7 @@ pub impl fmt::Display for Accepted<'_, '_> as AcceptedDisplay {
         writeln!(f, "free bits: {free} of {bits}")?;
         writeln!(
             f,
-            "image of {bytes} bytes, lowest bit of each byte first, `.` for a free bit:"
+            "image bytes: {bytes} (lowest bit of each byte first, `.` for a free bit)"
         )?;
         let picture = Picture { plan };
         write!(f, "{picture}")

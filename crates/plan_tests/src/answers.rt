@@ -152,15 +152,15 @@ const ACCEPTED: [(&str, &str); 4] = [
     ),
     (
         "image 1\r\nstation out 0 4\r\n\tstation in 4 3 mailbox 128 name b # the last\r\n",
-        "station 0: outputs 0-3 as A, no mailbox\nstation 1 (b): inputs 4-6 as b, mailbox 128 bytes\nexpected working counter: 3\nfree bits: 1 of 8\nimage of 1 bytes, lowest bit of each byte first, `.` for a free bit:\nbyte    0 bit    0  AAAAbbb.\n",
+        "station 0: outputs 0-3 as A, no mailbox\nstation 1 (b): inputs 4-6 as b, mailbox 128 bytes\nexpected working counter: 3\nfree bits: 1 of 8\nimage bytes: 1 (lowest bit of each byte first, `.` for a free bit)\nbyte    0 bit    0  AAAAbbb.\n",
     ),
     (
         "image 26\nstation out 135 2",
-        "station 0: outputs 135-136 as A, no mailbox\nexpected working counter: 2\nfree bits: 206 of 208\nimage of 26 bytes, lowest bit of each byte first, `.` for a free bit:\nbytes 0 to 15 are free\nbyte   16 bit  128  .......A A....... ........ ........ ........ ........ ........ ........\nbytes 24 to 25 are free\n",
+        "station 0: outputs 135-136 as A, no mailbox\nexpected working counter: 2\nfree bits: 206 of 208\nimage bytes: 26 (lowest bit of each byte first, `.` for a free bit)\nbytes 0 to 15 are free\nbyte   16 bit  128  .......A A....... ........ ........ ........ ........ ........ ........\nbytes 24 to 25 are free\n",
     ),
     (
         "image 9\nstation mailbox 16",
-        "station 0: mailbox 16 bytes\nexpected working counter: 0\nfree bits: 72 of 72\nimage of 9 bytes, lowest bit of each byte first, `.` for a free bit:\nbytes 0 to 8 are free\n",
+        "station 0: mailbox 16 bytes\nexpected working counter: 0\nfree bits: 72 of 72\nimage bytes: 9 (lowest bit of each byte first, `.` for a free bit)\nbytes 0 to 8 are free\n",
     ),
 ];
 
