@@ -1,4 +1,6 @@
 // The commands of EtherCAT that this project knows, and their codes on the wire.
+#![tactic(auto)]
+
 ghost use Rattle.std.specs.Prelude.{◌≡◌, Some};
 ghost use Rattle.command.specs.Codes.{code_of, command_of};
 ghost use Rattle.command.specs.Kinds.{kind_of};

@@ -1,4 +1,6 @@
 // Reads frames in hex from standard input, and prints the datagrams of each or why it is refused.
+#![tactic(auto)]
+
 use frame_report::{Dissection, report};
 use std::io::Read;
 

@@ -1,4 +1,6 @@
 // Frames as they stand on the wire: judged whole, then read datagram by datagram, in place.
+#![tactic(auto)]
+
 pub mod datagrams;
 pub mod faults;
 mod headers;

@@ -1,4 +1,6 @@
 // What is told of a text of frames in hex, one to a line.
+#![tactic(auto)]
+
 pub mod dissection;
 pub mod reports;
 pub mod rewriting;

@@ -1,4 +1,6 @@
 // Tests of frames: read, judged, written and told of, at the edges of each rule.
+#![tactic(auto)]
+
 #[cfg(test)]
 mod judging;
 #[cfg(test)]

@@ -1,4 +1,6 @@
 // Frames as text: read from hex, and what is found in them line by line.
+#![tactic(auto)]
+
 pub mod digits;
 pub mod hex;
 pub mod lines;

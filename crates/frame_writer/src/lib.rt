@@ -1,4 +1,6 @@
 // Writes frames over a lent buffer. What is written is read again as it was given.
+#![tactic(auto)]
+
 pub mod adding;
 mod encoding;
 pub mod faults;

@@ -1,7 +1,7 @@
 -- The tests over a list of windows, and what they mean for the bits of the image. Assumes nothing.
-use Rattle.std.proofs.Common.{◌≡◌, ℕ, zero, suc, ◌+◌, ◌*◌, ◌<◌, ◌≤◌, Bool, true, false, not, ◌||◌, List, [], ◌∷◌, ◌++◌, length, get_or, sym, refl, ap, ◌∙◌, ⊎_elim, arith}
+use Rattle.std.proofs.Common.{◌≡◌, ℕ, zero, suc, ◌*◌, ◌<◌, Bool, true, false, not, ◌||◌, List, [], ◌∷◌, ◌++◌, length, get_or, sym, refl, ap, ◌∙◌, ⊎_elim, arith}
 use Rattle.std.proofs.lemmas.Bool.{true≢false, both_ways, not-true, not-false, and_right, or_cases, or_parts, cases_Bool, cases_order}
-use Rattle.units.specs.Spans.{within, meet, Meet}
+use Rattle.units.specs.Spans.{within, meet}
 use Rattle.units.proofs.Spans.{within_decides, meet_decides}
 use Rattle.plan.specs.declared.windows.MappedWindow.{MappedWindow}
 use Rattle.plan.specs.declared.stations.PlannedStation.{PlannedStation}

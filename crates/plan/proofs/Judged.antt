@@ -1,19 +1,18 @@
 -- The verdict on a station refuses what breaks a rule, and nothing else. Assumes nothing.
-use Rattle.std.proofs.Common.{◌≡◌, ℕ, ◌+◌, ◌<◌, ◌≤◌, Bool, true, false, cond, not, ◌||◌, leb, List, [], ◌∷◌, ◌++◌, length, is_some, Some, None, Option, sym, refl, ap, ◌∙◌, subst, arith}
+use Rattle.std.proofs.Common.{◌≡◌, ℕ, ◌+◌, ◌<◌, ◌≤◌, Bool, true, false, cond, not, ◌||◌, List, [], ◌∷◌, ◌++◌, length, is_some, Some, None, Option, sym, refl, ap, ◌∙◌, subst, arith}
 use Rattle.std.specs.Option.{option_map}
 use Rattle.std.proofs.lemmas.Bool.{not-false, or_parts, or_from, leb-false, lt-leb, not_from_true}
 use Rattle.std.proofs.lemmas.List.{length_push}
-use Rattle.plan.specs.declared.faults.StationField.TheVariants.{Outputs, Inputs, Mailbox}
-use Rattle.plan.specs.declared.windows.MappedWindow.{MappedWindow}
+use Rattle.plan.specs.declared.faults.StationField.TheVariants.{Outputs, Inputs}
 use Rattle.plan.specs.declared.stations.PlannedStation.{PlannedStation}
 use Rattle.plan.specs.Lists.{any, first_from, or_else, given}
 use Rattle.plan.specs.Limits.{max_stations, window_in_range, mailbox_in_range}
-use Rattle.plan.specs.Windows.{bits_of, image_bits, any_leaves, any_meet, pair_meets}
+use Rattle.plan.specs.Windows.{image_bits, any_leaves, any_meet, pair_meets}
 use Rattle.plan.specs.Stations.{windows, all_windows, stations_meet}
-use Rattle.plan.specs.Verdict.{field_out_of_range, any_out_of_range, first_met, verdict}
+use Rattle.plan.specs.Verdict.{field_out_of_range, any_out_of_range, verdict}
 use Rattle.plan.specs.declared.plans.Plan.{Plan}
 use Rattle.plan.specs.Building.{image_bytes, stations_of}
-use Rattle.plan.specs.Meaning.{Exclusive, Sound}
+use Rattle.plan.specs.Meaning.{Sound}
 use Rattle.plan.proofs.Exclusive.{any_append, pair_append, windows-push, met_windows, exclusive, none_leaves, none_share}
 
 -- answers in turn: there is none exactly if no part has one

@@ -1,5 +1,5 @@
 -- Tests over lists. Assumes nothing.
-use Rattle.std.specs.Prelude.{ℕ, ◌+◌, Bool, true, false, cond, ◌||◌, List, [], ◌∷◌, Some, None, Option}
+use Rattle.std.specs.Prelude.{ℕ, ◌+◌, Bool, false, cond, ◌||◌, List, [], ◌∷◌, Some, None, Option}
 
 -- some element passes the test
 abbrev pub any : {X : Type 0} → (X → Bool) → List X → Bool

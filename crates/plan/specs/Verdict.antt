@@ -1,5 +1,5 @@
 -- What forbids a station, in the order in which it is looked at. Assumes nothing.
-use Rattle.std.specs.Prelude.{ℕ, ◌+◌, Bool, cond, not, List, [], ◌∷◌, length, is_some, Some, None, Option, nat_le}
+use Rattle.std.specs.Prelude.{ℕ, Bool, not, List, [], ◌∷◌, length, is_some, Some, None, Option, nat_le}
 use Rattle.std.specs.Option.{option_map}
 use Rattle.units.specs.declared.LinePosition.{LinePosition}
 use Rattle.plan.specs.declared.faults.StationField.{StationField}

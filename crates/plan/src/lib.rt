@@ -1,4 +1,6 @@
 // A plan: an image, and the stations whose windows of it never share a bit.
+#![tactic(auto)]
+
 pub mod building;
 pub mod counters;
 pub mod faults;

@@ -1,4 +1,6 @@
 // Reads a plan from standard input, and says whether it holds and who owns which bit.
+#![tactic(auto)]
+
 use anyhow::anyhow;
 use plan_report::{Accepted, Rejected};
 use plan_text::read_plan;

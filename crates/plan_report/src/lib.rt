@@ -1,4 +1,6 @@
 // What is said of a plan: its stations and a picture of its image, or why it is refused.
+#![tactic(auto)]
+
 pub mod accepted;
 mod conflicts;
 pub mod pictures;

@@ -1,12 +1,12 @@
 -- The grammar of one line, as what each word may be by what stands before it. Assumes nothing.
-use Rattle.std.specs.Prelude.{ℕ, Bool, true, false, List, [], ◌∷◌, Some, None, Ok, Err, Option, Result}
+use Rattle.std.specs.Prelude.{ℕ, Bool, true, false, List, Some, None, Ok, Err, Option, Result}
 use Rattle.std.specs.Option.{unwrap_or}
 use Rattle.units.specs.declared.ImageBit.{ImageBit}
 use Rattle.text.specs.Decimal.{decimal_of}
 use Rattle.plan.specs.declared.windows.Window.{Window}
 use Rattle.plan.specs.declared.stations.PlannedStation.{PlannedStation}
 use Rattle.plan_text.specs.declared.expected.Expected.{Expected}
-use Rattle.plan_text.specs.declared.expected.Expected.TheVariants.{LineKind, ImageFirst, OneImage, ImageBytes, FirstBit, BitCount, MailboxBytes, NameWord, Field, FieldOnce, EndOfLine}
+use Rattle.plan_text.specs.declared.expected.Expected.TheVariants.{LineKind, ImageBytes, FirstBit, BitCount, MailboxBytes, Field, FieldOnce, EndOfLine}
 use Rattle.plan_text.specs.declared.keywords.Keyword.{Keyword}
 use Rattle.plan_text.specs.declared.keywords.Keyword.TheVariants.{Image, Station, Out, In, Mailbox, Name}
 use Rattle.plan_text.specs.declared.stages.Fields.{Fields}

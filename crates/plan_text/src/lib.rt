@@ -1,4 +1,6 @@
 // A plan as text: what its lines say, and the plan that they make or why they make none.
+#![tactic(auto)]
+
 pub mod expected;
 mod keywords;
 pub mod reading;

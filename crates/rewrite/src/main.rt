@@ -1,5 +1,7 @@
 // Reads frames in hex from standard input, and prints each as this project writes its datagrams, or why it
 // is refused.
+#![tactic(auto)]
+
 use frame_report::{Rewriting, report};
 use std::io::Read;
 

@@ -4,6 +4,8 @@
 // In a line `#` begins a comment that goes to the line's end.
 // The words of a line are its longest runs of bytes that are no blanks; a blank is a space, a tab or a carriage return.
 // A number is one or more decimal digits, with no sign, and is at most 4,294,967,295.
+#![tactic(auto)]
+
 mod lines;
 mod number;
 mod pieces;

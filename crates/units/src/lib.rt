@@ -1,4 +1,6 @@
 // Units that are counted apart, and the one check on spans of them.
+#![tactic(auto)]
+
 ghost use Rattle.std.specs.Prelude.{◌≡◌, ℕ, ◌+◌, Decides};
 ghost use Rattle.units.specs.Spans.{spanned, has, Has, within, Within, meet, Meet};
 

@@ -8,16 +8,16 @@ use Rattle.frame.specs.Datagrams.{data_size, Placed}
 use Rattle.frame.proofs.Fronts.{front_is, size_fine}
 use Rattle.frame.proofs.headers.front.Goals as goal
 
-pub returns-in-err-token : goal.returns-in-err-token
-returns-in-err-token c =
+pub returns-in_err-token : goal.returns-in_err-token
+returns-in_err-token c =
     let p = err_from_is_err_and c.from-residual.result c.from-residual.ensures.1 in
     let h = c.in-Some.header in
     let s = c.in-Some.ensures in
-    let t = c.in-err-token.ensures.value in
+    let t = c.in_err-token.ensures.value in
     record {
       value =
           ap fault_of p.1 ∙ ap Some p.2 ∙ t
-          ∙ ap (λ o. or_else o (command_fault c.in-Some.header.code c.args.at)) c.in-default-size-fault.ensures
+          ∙ ap (λ o. or_else o (command_fault c.in-Some.header.code c.args.at)) c.in_default-size_fault.ensures
           ∙ front_is c.args.area.now c.args.left c.args.at c.in-Some.header s.header s.long;
       token = IfOk-from_err c.from-residual.result _ c.from-residual.ensures.0;
       len = IfOk-from_err c.from-residual.result _ c.from-residual.ensures.0;
@@ -28,8 +28,8 @@ pub returns : goal.returns
 returns c =
     let area = c.args.area.now in
     let s = c.in-Some.ensures in
-    let t = c.in-ok-token.ensures in
-    let f = size_fine c.in-Some.header.size (length c.args.area.now) c.args.left c.args.at (sym c.in-default-size-fault.ensures) in
+    let t = c.in_ok-token.ensures in
+    let f = size_fine c.in-Some.header.size (length c.args.area.now) c.args.left c.args.at (sym c.in_default-size_fault.ensures) in
     let n : c.from-bytes.result ≡ data_size c.args.area.now = c.from-bytes.ensures ∙ ap (λ x. x.size % 2048) s.header in
     let d : take (c.from-bytes.result - 0) c.in-Some.body.now ≡ take (data_size c.args.area.now) (drop 10 c.args.area.now) =
     ap (λ k. take k c.in-Some.body.now) (sub-zero c.from-bytes.result) ∙ (λ i. take (n i) (s.behind i)) in
@@ -37,7 +37,7 @@ returns c =
     let hd = s.header in
     record {
       value = t.value
-          ∙ ap (λ o. or_else o (command_fault c.in-Some.header.code c.args.at)) c.in-default-size-fault.ensures
+          ∙ ap (λ o. or_else o (command_fault c.in-Some.header.code c.args.at)) c.in_default-size_fault.ensures
           ∙ front_is c.args.area.now c.args.left c.args.at c.in-Some.header s.header s.long;
       token = t.token ∙ (λ i. record { offset = c.args.at + 10; fields = fields_with (hd i) (d i) (k i) });
       len = omega arith;

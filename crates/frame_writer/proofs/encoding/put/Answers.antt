@@ -14,15 +14,15 @@ returns c =
     let a = c.args.at in
     let n = length c.args.datagram.now.«data».now in
     let h = header (fields_of c.args.datagram.now) 128 in
-    let e : c.header-bytes-header.result ≡ header (fields_of c.args.datagram.now) 128 = c.header-bytes-header.ensures in
-    let pasted : take (c.args.at + 10) c.paste-at.new.buffer ≡ take c.args.at c.args.buffer.now ++ header (fields_of c.args.datagram.now) 128 =
-    subst (λ (x : List ℕ). take (c.args.at + length x) c.paste-at.new.buffer ≡ take c.args.at c.args.buffer.now ++ x) e c.paste-at.ensures.front in
-    let rest : drop (c.args.at + 10) c.paste-at.new.buffer ≡ drop (c.args.at + 10) c.args.buffer.now =
-    subst (λ (x : List ℕ). drop (c.args.at + length x) c.paste-at.new.buffer ≡ drop (c.args.at + length x) c.args.buffer.now) e c.paste-at.ensures.back in
+    let e : c.header_bytes-header.result ≡ header (fields_of c.args.datagram.now) 128 = c.header_bytes-header.ensures in
+    let pasted : take (c.args.at + 10) c.paste_at.new.buffer ≡ take c.args.at c.args.buffer.now ++ header (fields_of c.args.datagram.now) 128 =
+    subst (λ (x : List ℕ). take (c.args.at + length x) c.paste_at.new.buffer ≡ take c.args.at c.args.buffer.now ++ x) e c.paste_at.ensures.front in
+    let rest : drop (c.args.at + 10) c.paste_at.new.buffer ≡ drop (c.args.at + 10) c.args.buffer.now =
+    subst (λ (x : List ℕ). drop (c.args.at + length x) c.paste_at.new.buffer ≡ drop (c.args.at + length x) c.args.buffer.now) e c.paste_at.ensures.back in
     record {
-      front = front c.args.buffer.now c.paste-at.new.buffer c.paste-at-2.new.buffer c.paste-at-3.new.buffer c.args.at (length c.args.datagram.now.«data».now) (header (fields_of c.args.datagram.now) 128) c.args.datagram.now.«data».now (trailer (fields_of c.args.datagram.now)) pasted c.paste-at-2.ensures.front c.paste-at-3.ensures.front;
+      front = front c.args.buffer.now c.paste_at.new.buffer c.paste_at-2.new.buffer c.paste_at-3.new.buffer c.args.at (length c.args.datagram.now.«data».now) (header (fields_of c.args.datagram.now) 128) c.args.datagram.now.«data».now (trailer (fields_of c.args.datagram.now)) pasted c.paste_at-2.ensures.front c.paste_at-3.ensures.front;
       back =
-          further c.paste-at-3.new.buffer c.paste-at-2.new.buffer (c.args.at + 10 + length c.args.datagram.now.«data».now + 2) 0 (c.args.at + (length c.args.datagram.now.«data».now + 12)) (omega arith) c.paste-at-3.ensures.back
-          ∙ further c.paste-at-2.new.buffer c.paste-at.new.buffer (c.args.at + 10 + length c.args.datagram.now.«data».now) 2 (c.args.at + (length c.args.datagram.now.«data».now + 12)) (omega arith) c.paste-at-2.ensures.back
-          ∙ further c.paste-at.new.buffer c.args.buffer.now (c.args.at + 10) (length c.args.datagram.now.«data».now + 2) (c.args.at + (length c.args.datagram.now.«data».now + 12)) (omega arith) rest;
+          further c.paste_at-3.new.buffer c.paste_at-2.new.buffer (c.args.at + 10 + length c.args.datagram.now.«data».now + 2) 0 (c.args.at + (length c.args.datagram.now.«data».now + 12)) (omega arith) c.paste_at-3.ensures.back
+          ∙ further c.paste_at-2.new.buffer c.paste_at.new.buffer (c.args.at + 10 + length c.args.datagram.now.«data».now) 2 (c.args.at + (length c.args.datagram.now.«data».now + 12)) (omega arith) c.paste_at-2.ensures.back
+          ∙ further c.paste_at.new.buffer c.args.buffer.now (c.args.at + 10) (length c.args.datagram.now.«data».now + 2) (c.args.at + (length c.args.datagram.now.«data».now + 12)) (omega arith) rest;
     }

@@ -4,8 +4,8 @@ use Rattle.frame_writer.proofs.finishing.close.Goals as goal
 
 pub returns : goal.returns
 returns c =
-    let e : c.frame-header-header.result ≡ head_of (c.args.end - 16) = c.frame-header-header.ensures in
+    let e : c.frame_header-header.result ≡ head_of (c.args.end - 16) = c.frame_header-header.ensures in
     record {
-      front = subst (λ (x : List ℕ). take (0 + length x) c.paste-at.new.buffer ≡ x) e c.paste-at.ensures.front;
-      rest = subst (λ (x : List ℕ). drop (0 + length x) c.paste-at.new.buffer ≡ drop (0 + length x) (set c.args.buffer.now (c.args.last + 7) (c.args.size / 256))) e c.paste-at.ensures.back;
+      front = subst (λ (x : List ℕ). take (0 + length x) c.paste_at.new.buffer ≡ x) e c.paste_at.ensures.front;
+      rest = subst (λ (x : List ℕ). drop (0 + length x) c.paste_at.new.buffer ≡ drop (0 + length x) (set c.args.buffer.now (c.args.last + 7) (c.args.size / 256))) e c.paste_at.ensures.back;
     }

@@ -3,8 +3,8 @@ use Rattle.std.proofs.lemmas.Bool.{eqb-true}
 use Rattle.frame_writer.proofs.Lists.{fault_here, fault_next, fault_end, fault_some, fault_none, fault_fits, some_left}
 use Rattle.frame_writer.proofs.whole.list_fault.Goals as goal
 
-pub returns-then-is-empty : goal.returns-then-is-empty
-returns-then-is-empty c = fault_none c.args.datagrams.now (eqb-true _ _ (sym c.if-is-empty.ensures))
+pub returns-then-is_empty : goal.returns-then-is_empty
+returns-then-is_empty c = fault_none c.args.datagrams.now (eqb-true _ _ (sym c.if-is_empty.ensures))
 
 pub returns-in-Some : goal.returns-in-Some
 returns-in-Some c =
@@ -14,8 +14,8 @@ returns-in-Some c =
 
 pub loop-datagram-preserved : goal.loop-datagram-preserved
 loop-datagram-preserved c = (
-  fault_fits c.args.datagrams.now c.loop-datagram.datagram-index c.loop-datagram.at _ c.in-default.ensures,
-  fault_next c.args.datagrams.now c.loop-datagram.datagram-index c.loop-datagram.at _ c.loop-datagram-test.true c.in-default.ensures
+  fault_fits c.args.datagrams.now c.loop-datagram.datagram-index c.loop-datagram.at _ c.in_default.ensures,
+  fault_next c.args.datagrams.now c.loop-datagram.datagram-index c.loop-datagram.at _ c.loop-datagram-test.true c.in_default.ensures
       ∙ c.loop-datagram.invariant.1,
 )
 
@@ -23,4 +23,4 @@ pub returns : goal.returns
 returns c =
     fault_end c.args.datagrams.now c.loop-datagram.datagram-index c.loop-datagram.at c.loop-datagram-test.false
     ∙ c.loop-datagram.invariant.1
-    ∙ fault_some c.args.datagrams.now (some_left (length c.args.datagrams.now) c.if-is-empty.ensures)
+    ∙ fault_some c.args.datagrams.now (some_left (length c.args.datagrams.now) c.if-is_empty.ensures)

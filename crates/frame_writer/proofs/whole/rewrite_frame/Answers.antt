@@ -10,11 +10,11 @@ use Rattle.frame_writer.proofs.Again.{rewritable, rewritten}
 use Rattle.frame_writer.proofs.Lists.{Under, under_adds, under_more, under_next, under_all, finished, back}
 use Rattle.frame_writer.proofs.whole.rewrite_frame.Goals as goal
 
-pub returns-then-bytes-lt-MAX-FRAME-BYTES : goal.returns-then-bytes-lt-MAX-FRAME-BYTES
-returns-then-bytes-lt-MAX-FRAME-BYTES c = record {
+pub returns-then-bytes-lt-MAX_FRAME_BYTES : goal.returns-then-bytes-lt-MAX_FRAME_BYTES
+returns-then-bytes-lt-MAX_FRAME_BYTES c = record {
   value =
-      sym (cond-true (ltb (length c.args.buffer.now) 1514) _ _ (lt-ltb (length c.args.buffer.now) 1514 c.if-bytes-lt-MAX-FRAME-BYTES.true))
-      ∙ ap (rewrite_answer (length c.args.buffer.now)) c.in-ok-tokens.ensures;
+      sym (cond-true (ltb (length c.args.buffer.now) 1514) _ _ (lt-ltb (length c.args.buffer.now) 1514 c.if-bytes-lt-MAX_FRAME_BYTES.true))
+      ∙ ap (rewrite_answer (length c.args.buffer.now)) c.in_ok-tokens.ensures;
   cases = refl;
 }
 
@@ -22,7 +22,7 @@ pub loop-token-preserved : goal.loop-token-preserved
 loop-token-preserved c =
     let inv = c.loop-token.invariant in
     let u = under_next (fields_in (left c.into-iter-token-iterator.result)) c.over-writer.result.buffer.now c.loop-token.writer inv.0.0 (fields_of c.datagram.result) (placed_of c.in-Some.token) (left c.loop-token.token-iterator) (left c.next.new.self) c.in-Some.ensures.steps c.datagram.ensures inv.0.1 in
-    let e = c.in-ok-add.ensures in (
+    let e = c.in_ok-add.ensures in (
       (
         inv.0.0 ++ fields_of c.datagram.result ∷ [],
         under_more (fields_in (left c.into-iter-token-iterator.result)) c.over-writer.result.buffer.now c.loop-token.writer c.add.new.self inv.0.0 (fields_of c.datagram.result) (fields_in (left c.next.new.self)) u (e.held inv.0.0 inv.0.1.held) e.len e.behind,
@@ -32,21 +32,21 @@ loop-token-preserved c =
     )
 
 -- no addition is refused, since the frame was accepted
-pub returns-in-err-add : goal.returns-in-err-add
-returns-in-err-add c =
+pub returns-in_err-add : goal.returns-in_err-add
+returns-in_err-add c =
     let inv = c.loop-token.invariant in
-    let accepted = ap (λ ts. Ok (left ts)) c.into-iter-token-iterator.ensures.into-iter-gives ∙ c.in-ok-tokens.ensures in
+    let accepted = ap (λ ts. Ok (left ts)) c.into-iter-token-iterator.ensures.into-iter-gives ∙ c.in_ok-tokens.ensures in
     let k = rewritable c.args.frame.now (left c.into-iter-token-iterator.result) (λ i. (c.type-inv.frame i).fits) (sym accepted) in
     let u = under_next (fields_in (left c.into-iter-token-iterator.result)) c.over-writer.result.buffer.now c.loop-token.writer inv.0.0 (fields_of c.datagram.result) (placed_of c.in-Some.token) (left c.loop-token.token-iterator) (left c.next.new.self) c.in-Some.ensures.steps c.datagram.ensures inv.0.1 in
     let ok = under_adds (fields_in (left c.into-iter-token-iterator.result)) c.over-writer.result.buffer.now c.loop-token.writer inv.0.0 (fields_of c.datagram.result) (fields_in (left c.next.new.self)) k.clear u in
-    let e = c.in-err-add.ensures.value ∙ ok in
+    let e = c.in_err-add.ensures.value ∙ ok in
     let z : ◌≡◌ {A = ℕ} 0 1 = cc in
     absurd (omega arith)
 
 pub returns : goal.returns
 returns c =
     let inv = c.loop-token.invariant in
-    let accepted = ap (λ ts. Ok (left ts)) c.into-iter-token-iterator.ensures.into-iter-gives ∙ c.in-ok-tokens.ensures in
+    let accepted = ap (λ ts. Ok (left ts)) c.into-iter-token-iterator.ensures.into-iter-gives ∙ c.in_ok-tokens.ensures in
     let k = rewritable c.args.frame.now (left c.into-iter-token-iterator.result) (λ i. (c.type-inv.frame i).fits) (sym accepted) in
     let start = c.over-writer.ensures.bytes in
     let u = under_all (fields_in (left c.into-iter-token-iterator.result)) c.over-writer.result.buffer.now c.loop-token.writer inv.0.0

@@ -11,7 +11,7 @@ loop-datagram-init c =
       record {
         held = c.over-writer.ensures.held;
         parts = refl;
-        long = omega (arith, ap length b, c.if-bytes-lt-MAX-FRAME-BYTES.false);
+        long = omega (arith, ap length b, c.if-bytes-lt-MAX_FRAME_BYTES.false);
         behind = refl;
       },
       refl,
@@ -21,7 +21,7 @@ loop-datagram-init c =
 pub loop-datagram-preserved : goal.loop-datagram-preserved
 loop-datagram-preserved c =
     let inv = c.loop-datagram.invariant in
-    let e = c.in-ok-add.ensures in
+    let e = c.in_ok-add.ensures in
     let held = e.held (map fields_of (take c.loop-datagram.datagram-index c.args.datagrams.now)) inv.0.held in (
       slice_more c.args.datagrams.now c.over-writer.result.buffer.now c.loop-datagram.writer c.add.new.self c.loop-datagram.datagram-index _ c.loop-datagram-test.true inv.0 held e.len e.behind,
       e.len ∙ inv.1,
@@ -29,10 +29,10 @@ loop-datagram-preserved c =
     )
 
 -- no addition is refused, since the list was judged
-pub returns-in-err-add : goal.returns-in-err-add
-returns-in-err-add c =
-    let ok = slice_adds c.args.datagrams.now c.over-writer.result.buffer.now c.loop-datagram.writer c.loop-datagram.datagram-index _ c.in-default.ensures c.loop-datagram-test.true c.loop-datagram.invariant.0 in
-    let e = c.in-err-add.ensures.value ∙ ok in
+pub returns-in_err-add : goal.returns-in_err-add
+returns-in_err-add c =
+    let ok = slice_adds c.args.datagrams.now c.over-writer.result.buffer.now c.loop-datagram.writer c.loop-datagram.datagram-index _ c.in_default.ensures c.loop-datagram-test.true c.loop-datagram.invariant.0 in
+    let e = c.in_err-add.ensures.value ∙ ok in
     let z : ◌≡◌ {A = ℕ} 0 1 = cc in
     absurd (omega arith)
 
@@ -41,7 +41,7 @@ returns c =
     let inv = c.loop-datagram.invariant in
     let start = c.over-writer.ensures.bytes in
     let u = slice_all c.args.datagrams.now c.over-writer.result.buffer.now c.loop-datagram.writer c.loop-datagram.datagram-index c.loop-datagram-test.false inv.0 in
-    let f = finished (map fields_of c.args.datagrams.now) c.over-writer.result.buffer.now c.loop-datagram.writer c.finish.new.self.0 c.finish.result (sym c.in-default.ensures) inv.1 u c.finish.ensures.value c.finish.ensures.cases in
+    let f = finished (map fields_of c.args.datagrams.now) c.over-writer.result.buffer.now c.loop-datagram.writer c.finish.new.self.0 c.finish.result (sym c.in_default.ensures) inv.1 u c.finish.ensures.value c.finish.ensures.cases in
     let m = subst (λ (b : List ℕ). MatchResult c.finish.result (λ n. Written b (map fields_of c.args.datagrams.now) n c.finish.new.self.0) (λ _. c.finish.new.self.0 ≡ b)) start f.1 in
     let same = inv.2 ∙ c.over-writer.ensures.same in
     record {

@@ -1,4 +1,4 @@
-use Rattle.std.proofs.Common.{◌≡◌, sym, ap, ◌∙◌}
+use Rattle.std.proofs.Common.{sym, ap, ◌∙◌}
 use Rattle.plan_report.specs.Signs.{sign}
 use Rattle.plan_report.proofs.Apart.{apart}
 use Rattle.plan_report.proofs.signs.sign_of.Goals as goal
@@ -10,5 +10,5 @@ returns-in-None c =
 
 pub returns-in-Some : goal.returns-in-Some
 returns-in-Some c =
-    let e = c.sign-in.ensures ∙ sym (ap sign c.in-Some.is) in
+    let e = c.sign_in.ensures ∙ sym (ap sign c.in-Some.is) in
     record { value = e; apart = λ other h k same. apart other c.args.owner k h (same ∙ e) }

@@ -1,4 +1,4 @@
-use Rattle.std.proofs.Common.{◌≡◌, ltb, arith, rules}
+use Rattle.std.proofs.Common.{◌≡◌, ltb, arith}
 use Rattle.std.proofs.lemmas.Bool.Decides.{nat_tests, Decides-at}
 use Rattle.units.specs.Spans.{spanned, meet}
 use Rattle.units.proofs.Spans.{meet_decides}

@@ -1,4 +1,4 @@
-use Rattle.std.proofs.Common.{◌≡◌, leb, arith, rules}
+use Rattle.std.proofs.Common.{◌≡◌, leb, arith}
 use Rattle.std.proofs.lemmas.Bool.Decides.{nat_tests, Decides-at}
 use Rattle.units.specs.Spans.{spanned, within}
 use Rattle.units.proofs.Spans.{within_decides}

@@ -9,10 +9,10 @@ use Rattle.frame.proofs.reading.Tokens.advance.Goals as goal
 pub returns-then-at-self : goal.returns-then-at-self
 returns-then-at-self c = handed_end c.args.self.now.frame.now c.args.self.now.at c.if-at-self.true
 
-pub returns-in-default : goal.returns-in-default
-returns-in-default c =
+pub returns-in_default : goal.returns-in_default
+returns-in_default c =
     let e = take_rest c.args.self.now.frame.now c.args.self.now.at in
-    handed_stop c.args.self.now.frame.now c.args.self.now.at c.in-default.field-0 (c.in-default.ensures.value ∙ ap (λ a. front_fault a (length a) c.args.self.now.at) e)
+    handed_stop c.args.self.now.frame.now c.args.self.now.at c.in_default.field-0 (c.in_default.ensures.value ∙ ap (λ a. front_fault a (length a) c.args.self.now.at) e)
 
 pub returns : goal.returns
 returns c =

@@ -12,7 +12,7 @@ pub loop-b-preserved : goal.loop-b-preserved
 loop-b-preserved g c = λ plain.
     let p = c.loop-b.invariant plain in
     has_written_of_eq g.W.Write.write_str_gives c.args.f.now _ _ c.write.new.self (hex_more c.args.self.now.0.now c.loop-b.b-index c.loop-b-test.true)
-    (has_written_append g.W.Write.write_str_gives c.args.f.now (hex_bytes (take c.loop-b.b-index c.args.self.now.0.now)) c.loop-b.f (hex2 (get_or c.args.self.now.0.now c.loop-b.b-index 0)) c.write.new.self p (c.in-ok-write.ensures.writes p.plain refl))
+    (has_written_append g.W.Write.write_str_gives c.args.f.now (hex_bytes (take c.loop-b.b-index c.args.self.now.0.now)) c.loop-b.f (hex2 (get_or c.args.self.now.0.now c.loop-b.b-index 0)) c.write.new.self p (c.in_ok-write.ensures.writes p.plain refl))
 
 pub returns-clause-writes : goal.returns-clause-writes
 returns-clause-writes g c = λ plain ok. has_written_of_eq g.W.Write.write_str_gives c.args.f.now _ _ c.loop-b.f (ap hex_bytes (take_all c.loop-b.b-index c.args.self.now.0.now c.loop-b-test.false)) (c.loop-b.invariant plain)

@@ -10,7 +10,7 @@ pub returns-in-Header-clause-writes : goal.returns-in-Header-clause-writes
 returns-in-Header-clause-writes g c = λ plain ok. has_written_of_eq g.W.Write.write_str_gives c.args.f.now _ _ c.write-in-Header.new.self (ap words_of (sym c.in-Header.is)) (c.write-in-Header.ensures.writes plain ok)
 
 pub returns-in-Empty-clause-writes : goal.returns-in-Empty-clause-writes
-returns-in-Empty-clause-writes g c = λ plain ok. has_written_of_eq g.W.Write.write_str_gives c.args.f.now _ _ c.write-str.new.self (ap words_of (sym c.in-Empty.is)) (c.write-str.ensures.writes plain ok)
+returns-in-Empty-clause-writes g c = λ plain ok. has_written_of_eq g.W.Write.write_str_gives c.args.f.now _ _ c.write_str.new.self (ap words_of (sym c.in-Empty.is)) (c.write_str.ensures.writes plain ok)
 
 pub returns-in-More-clause-writes : goal.returns-in-More-clause-writes
-returns-in-More-clause-writes g c = λ plain ok. has_written_of_eq g.W.Write.write_str_gives c.args.f.now _ _ c.write-str-in-More.new.self (ap words_of (sym c.in-More.is)) (c.write-str-in-More.ensures.writes plain ok)
+returns-in-More-clause-writes g c = λ plain ok. has_written_of_eq g.W.Write.write_str_gives c.args.f.now _ _ c.write_str-in-More.new.self (ap words_of (sym c.in-More.is)) (c.write_str-in-More.ensures.writes plain ok)

@@ -6,7 +6,7 @@ use Rattle.frame_writer.proofs.writers.Writer.add.Goals as goal
 
 pub returns : goal.returns
 returns c =
-    let ok = addable c.args.self.now.progress.end (fields_of c.args.datagram.now) (sym c.in-default.ensures) in
+    let ok = addable c.args.self.now.progress.end (fields_of c.args.datagram.now) (sym c.in_default.ensures) in
     let high = c.args.self.now.progress.high in
     record {
       value = search rules;

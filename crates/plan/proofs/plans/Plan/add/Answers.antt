@@ -13,14 +13,14 @@ returns-in-Some c = record {
       absurd (omega arith);
 }
 
-pub invariant-of-self : goal.invariant-of-self
-invariant-of-self c =
+pub invariant_of-self : goal.invariant_of-self
+invariant_of-self c =
     let plan = c.args.self.now in
-    let k = pushed (image_bytes plan) (stations_of plan) c.args.station (vec_items c.push.new.self) (is_ok c.push.result) (kept plan) (sym c.fault-of.ensures ∙ c.in-default.is) c.push.ensures.items in
-    (plan.image, (k.few, (k.fields, (k.inside, (k.apart, tt)))))
+    let k = pushed (image_bytes plan) (stations_of plan) c.args.station (vec_items c.push.new.self) (is_ok c.push.result) (kept plan) (sym c.fault_of.ensures ∙ c.in_default.is) c.push.ensures.items in
+    record { image = plan.image; few = k.few; fields = k.fields; inside = k.inside; apart = k.apart }
 
 pub returns : goal.returns
 returns c = record {
   done = search rules;
-  exact = sound (image_bytes c.args.self.now) (stations_of c.args.self.now) c.args.station (kept c.args.self.now) (sym c.fault-of.ensures ∙ c.in-default.is);
+  exact = sound (image_bytes c.args.self.now) (stations_of c.args.self.now) c.args.station (kept c.args.self.now) (sym c.fault_of.ensures ∙ c.in_default.is);
 }

@@ -13,7 +13,7 @@ returns-in-Some c =
 
 pub loop-i-preserved : goal.loop-i-preserved
 loop-i-preserved c =
-    owner_step c.deref-station-items.result.now c.loop-i.i c.args.bit.0 None c.loop-i-test.true (c.in-default.ensures ∙ ap (λ ws. direction_at ws c.args.bit.0) c.windows.ensures) c.loop-i.invariant
+    owner_step c.deref-station-items.result.now c.loop-i.i c.args.bit.0 None c.loop-i-test.true (c.in_default.ensures ∙ ap (λ ws. direction_at ws c.args.bit.0) c.windows.ensures) c.loop-i.invariant
 
 pub returns : goal.returns
 returns c =

@@ -1,4 +1,4 @@
-use Rattle.std.proofs.Common.{◌≡◌, length, sym, ap, ◌∙◌, subst, arith}
+use Rattle.std.proofs.Common.{length, sym, ap, ◌∙◌, subst, arith}
 use Rattle.plan.specs.Stations.{all_windows}
 use Rattle.plan.specs.Verdict.{any_out_of_range}
 use Rattle.plan.specs.Meaning.{Exclusive}
@@ -9,7 +9,7 @@ use Rattle.plan.proofs.plans.Plan.stations.Goals as goal
 pub returns : goal.returns
 returns c =
     let plan = c.args.self.now in
-    let e = c.as-slice.ensures.value in
+    let e = c.as_slice.ensures.value in
     record {
       value = e;
       few = omega (arith, ap length e, plan.few);
