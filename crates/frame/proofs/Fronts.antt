@@ -1,12 +1,12 @@
 -- What is known of the datagram at the front of an area. Assumes nothing.
-use Rattle.std.proofs.Common.{◌≡◌, ℕ, ◌+◌, ◌*◌, ◌/◌, ◌%◌, ◌<◌, ◌≤◌, Bool, true, false, cond, not, ◌&&◌, eqb, ltb, leb, List, length, get_or, take, drop, Some, None, Option, sym, refl, ap, ◌∙◌, arith}
+use Rattle.std.proofs.Common.{◌≡◌, ℕ, ◌+◌, ◌≤◌, Bool, true, false, cond, not, eqb, ltb, leb, List, length, get_or, Some, None, Option, sym, refl, ap, ◌∙◌, arith}
 use Rattle.std.proofs.lemmas.Bool.{ltb-false, le-ltb, leb-true, le-leb, eqb-true, eq-eqb, not-false, not_from_true, and_parts, and_from, cond-true, cond-false}
 use Rattle.command.specs.Codes.{command_of}
 use Rattle.frame.specs.declared.faults.FrameFault.{FrameFault}
 use Rattle.frame.specs.declared.faults.FrameFault.TheVariants.{Passes, DataLength, Reserved, More, Unlisted}
 use Rattle.frame.specs.declared.headers.Header.{Header}
 use Rattle.frame.specs.Words.{word}
-use Rattle.frame.specs.Datagrams.{data_bits, reserved_bits, more_bit, data_size, size}
+use Rattle.frame.specs.Datagrams.{data_bits, reserved_bits, more_bit}
 use Rattle.frame.specs.Judging.{known, same, data_in_range, size_fault, command_fault, or_else, front_fault}
 use Rattle.frame.specs.Headers.{header_at}
 

@@ -1,12 +1,12 @@
 -- A walk over the datagrams of an area. Assumes nothing.
-use Rattle.std.proofs.Common.{◌≡◌, ℕ, zero, suc, ◌+◌, ◌-◌, ◌<◌, ◌≤◌, Bool, true, false, cond, eqb, List, [], ◌∷◌, length, drop, Some, None, Ok, Err, Option, Result, sym, refl, ap, ◌∙◌, subst, inl, inr, arith, length-drop}
+use Rattle.std.proofs.Common.{◌≡◌, ℕ, zero, suc, ◌+◌, ◌-◌, ◌<◌, ◌≤◌, cond, eqb, List, [], ◌∷◌, length, drop, Some, None, Ok, Err, Option, Result, sym, refl, ap, ◌∙◌, inl, inr, arith, length-drop}
 use Rattle.std.proofs.lemmas.Bool.{eq-eqb, ne_eqb, cases_eq}
 use Rattle.std.proofs.lemmas.List.{drop_all, drop-drop}
 use Rattle.frame.specs.declared.faults.FrameFault.{FrameFault}
 use Rattle.frame.specs.Datagrams.{Placed, size, placed_at}
 use Rattle.frame.specs.Judging.{front_fault, unless, before, judge, judge_area, fault_of}
 use Rattle.frame.specs.Reading.{if_none, handed, handed_from}
-use Rattle.frame.proofs.Fronts.{Fine, fine}
+use Rattle.frame.proofs.Fronts.{fine}
 
 unless-same : {X : Type 0} (o : Option FrameFault) (r s : Result X FrameFault) → (o ≡ None → r ≡ s) → unless o r ≡ unless o s
 unless-same (Some e) r s h = refl

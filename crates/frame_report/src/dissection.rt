@@ -24,7 +24,8 @@ impl FrameReport for Dissection {
             }
             Err(fault) => {
                 let refusal = RefusalLine(fault);
-                writeln!(out, "{refusal}")
+                writeln!(out, "{refusal}")?;
+                Ok(())
             }
         }
     }

@@ -34,7 +34,10 @@ fn report_line<R: FrameReport>(
             way.tell(out, frame.as_slice())
         }
         Err(HexError::Memory) => Err(fmt::Error),
-        Err(error) => writeln!(out, "line {number}: {error}"),
+        Err(error) => {
+            writeln!(out, "line {number}: {error}")?;
+            Ok(())
+        }
     }
 }
 

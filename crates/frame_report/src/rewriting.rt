@@ -41,11 +41,13 @@ impl FrameReport for Rewriting {
         match rewrite_frame(&mut buffer, frame) {
             Ok(bytes) => {
                 let again = HexBytes(&buffer[0..bytes]);
-                writeln!(out, "{again}")
+                writeln!(out, "{again}")?;
+                Ok(())
             }
             Err(fault) => {
                 let refusal = WriteRefusal(fault);
-                writeln!(out, "{refusal}")
+                writeln!(out, "{refusal}")?;
+                Ok(())
             }
         }
     }

@@ -1,5 +1,5 @@
 -- What is read is written again. Assumes nothing.
-use Rattle.std.proofs.Common.{◌≡◌, ℕ, zero, suc, ◌+◌, ◌-◌, ◌*◌, ◌/◌, ◌%◌, ◌<◌, ◌≤◌, Bool, true, false, cond, not, eqb, ltb, leb, List, [], ◌∷◌, ◌++◌, map, length, get_or, take, drop, None, Ok, Err, Result, sym, refl, ap, ◌∙◌, subst, inl, inr, append_assoc, append-nil, arith, length-drop, length-take, MatchResult}
+use Rattle.std.proofs.Common.{◌≡◌, ℕ, zero, suc, ◌+◌, ◌-◌, ◌*◌, ◌/◌, ◌%◌, ◌<◌, ◌≤◌, Bool, true, false, eqb, List, [], ◌∷◌, ◌++◌, length, get_or, take, drop, None, Ok, Err, Result, sym, refl, ap, ◌∙◌, subst, inl, inr, append_assoc, append-nil, arith, length-drop, length-take, MatchResult}
 use Rattle.std.proofs.lemmas.List.{take-append-drop, drop-drop, drop_more, drop_all, length-take-le, get_or-drop, get_or-take, get_or_past}
 use Rattle.std.proofs.lemmas.Bool.{cases_Bool, cases_eq, cases_lt, cond-true, cond-false, eqb-true, leb-true, leb-false, lt-ltb, le-ltb}
 use Rattle.command.specs.declared.Command.{Command}
@@ -10,13 +10,13 @@ use Rattle.frame.specs.declared.faults.FrameFault.{FrameFault}
 use Rattle.frame.specs.Judging.{same, or_else, front_fault, judge, judge_area, fault_of, area_of, area_size, headed, and_then, judged}
 use Rattle.frame.specs.Reading.{if_none, handed}
 use Rattle.frame.proofs.Fronts.{Fine, fine}
-use Rattle.frame.proofs.Heads.{Headed, headed_sound}
+use Rattle.frame.proofs.Heads.{headed_sound}
 use Rattle.frame.proofs.Walk.{clear_front, handed_none, before_fault, judge_more, accepted}
 use Rattle.std.proofs.lemmas.Result.{MatchResult-weaker}
 use Rattle.frame_writer.specs.declared.faults.WriteFault.{WriteFault}
 use Rattle.frame_writer.specs.Adding.{add_fault, list_fault, write_fault, write_answer, rewrite_answer, unless, in_buffer, frame_length}
 use Rattle.frame_writer.specs.Frames.{Written, Rewritten}
-use Rattle.frame_writer.specs.Encoding.{size_in, header, trailer, encoded, area_for, total, fields_in}
+use Rattle.frame_writer.specs.Encoding.{size_in, trailer, encoded, area_for, total, fields_in}
 use Rattle.frame_writer.specs.Writers.{Valid, AllValid}
 use Rattle.frame_writer.proofs.Lists.{add_fits, write_fits}
 use Rattle.frame_writer.proofs.Round.{length_area, frame_size, frame_area}

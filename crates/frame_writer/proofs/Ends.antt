@@ -1,5 +1,5 @@
 -- The end of a frame. Assumes nothing.
-use Rattle.std.proofs.Common.{◌≡◌, ℕ, ◌+◌, ◌-◌, ◌*◌, ◌/◌, ◌%◌, ◌<◌, ◌≤◌, List, [], ◌∷◌, ◌++◌, length, take, drop, set, replicate, sym, refl, ap, ◌∙◌, append_assoc, append-nil, add-zero, arith}
+use Rattle.std.proofs.Common.{◌≡◌, ℕ, ◌+◌, ◌-◌, ◌/◌, ◌%◌, ◌<◌, ◌≤◌, List, [], ◌∷◌, ◌++◌, length, take, drop, set, replicate, sym, refl, ap, ◌∙◌, append_assoc, append-nil, add-zero, arith}
 use lib.Seq.{take-set-lt}
 use Rattle.std.proofs.lemmas.List.{set-append_right, take-append-drop, take-take, drop-take, drop-set-add, drop-set-lt, take-replicate, length-replicate}
 use Rattle.command.specs.Codes.{code_of}

@@ -1,11 +1,10 @@
 -- Datagrams of which none is refused. Assumes nothing.
-use Rattle.std.proofs.Common.{◌≡◌, ℕ, ◌+◌, ◌-◌, ◌<◌, ◌≤◌, Bool, true, false, cond, not, eqb, ltb, leb, List, [], ◌∷◌, ◌++◌, map, length, get_or, take, drop, Some, None, Ok, Err, Option, Result, sym, refl, ap, ◌∙◌, subst, inl, inr, append_assoc, append-nil, arith, MatchResult}
-use Rattle.std.proofs.lemmas.List.{at_drop_more, at_drop_all, drop_all, drop_more, map_more, take_all}
+use Rattle.std.proofs.Common.{◌≡◌, ℕ, ◌+◌, ◌-◌, ◌<◌, ◌≤◌, false, not, eqb, ltb, List, [], ◌∷◌, ◌++◌, map, length, get_or, take, drop, Some, None, Ok, Err, Result, sym, refl, ap, ◌∙◌, subst, inl, inr, append_assoc, append-nil, arith, MatchResult}
+use Rattle.std.proofs.lemmas.List.{at_drop_more, at_drop_all, drop_all, drop_more, map_more}
 use Rattle.std.proofs.lemmas.Bool.{cases_lt, le-ltb, le-leb, eqb-false, ne_eqb, not_from_true, and_from, cond-true, cond-false}
-use Rattle.command.specs.Codes.{code_of}
 use Rattle.frame.specs.declared.datagrams.Datagram.{Datagram}
 use Rattle.frame.specs.declared.faults.FrameFault.{FrameFault}
-use Rattle.frame.specs.declared.faults.FrameFault.TheVariants.{Empty, Passes, DataLength, Unlisted}
+use Rattle.frame.specs.declared.faults.FrameFault.TheVariants.{Empty}
 use Rattle.frame.specs.Datagrams.{Fields, Placed, fields_of}
 use Rattle.frame.specs.Judging.{known, data_in_range, or_else}
 use Rattle.frame.proofs.Fronts.{or_none}
@@ -13,10 +12,10 @@ use Rattle.frame_writer.specs.declared.faults.WriteFault.{WriteFault}
 use Rattle.frame_writer.specs.Adding.{add_fault, add_answer, unless, in_buffer, list_fault, write_fault, write_answer, finish_answer, frame_length}
 use Rattle.frame_writer.specs.Encoding.{size_in, total, fields_in}
 use Rattle.frame_writer.specs.declared.writers.Writer.{Writer}
-use Rattle.frame_writer.specs.Writers.{Valid, AllValid, holds, end_of}
+use Rattle.frame_writer.specs.Writers.{AllValid, holds, end_of}
 use Rattle.frame_writer.specs.Frames.{frame_of, Written}
 use Rattle.frame_writer.proofs.Round.{length_frame}
-use Rattle.frame_writer.proofs.Steps.{Addable, addable, total_more, further}
+use Rattle.frame_writer.proofs.Steps.{addable, total_more, further}
 
 -- The first fault of a list.
 

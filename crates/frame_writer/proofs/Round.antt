@@ -1,18 +1,18 @@
 -- What is written is read. Assumes nothing.
-use Rattle.std.proofs.Common.{◌≡◌, ℕ, zero, suc, ◌+◌, ◌-◌, ◌*◌, ◌/◌, ◌%◌, ◌<◌, ◌≤◌, Bool, true, false, eqb, ltb, leb, List, [], ◌∷◌, ◌++◌, length, get_or, take, drop, replicate, None, Ok, sym, refl, ap, ◌∙◌, subst, append_assoc, append-nil, add-zero, arith}
+use Rattle.std.proofs.Common.{◌≡◌, ℕ, suc, ◌+◌, ◌-◌, ◌*◌, ◌/◌, ◌%◌, ◌<◌, ◌≤◌, true, ltb, List, [], ◌∷◌, ◌++◌, length, get_or, take, drop, replicate, None, Ok, sym, refl, ap, ◌∙◌, subst, append_assoc, append-nil, add-zero, arith}
 use Rattle.std.proofs.lemmas.List.{length-append, take_at, drop_at, get_or-append-add, length-replicate, take-append-drop}
 use Rattle.std.proofs.lemmas.Bool.{le-ltb, lt-ltb, le-leb, lt-leb}
 use Rattle.command.specs.declared.Command.{Command}
 use Rattle.command.specs.declared.Command.TheVariants.{Nop, Aprd, Apwr, Aprw, Fprd, Fpwr, Fprw, Brd, Bwr, Lrd, Lwr, Lrw, Unlisted}
 use Rattle.command.specs.Codes.{code_of, command_of}
 use Rattle.frame.specs.Words.{word}
-use Rattle.frame.specs.Datagrams.{Fields, Placed, data_bits, reserved_bits, more_bit, data_size, size, fields_at, placed_at}
-use Rattle.frame.specs.Judging.{known, same, front_fault, before, judge, judge_area, area_size, area_of, headed, and_then, judged}
+use Rattle.frame.specs.Datagrams.{Fields, data_bits, reserved_bits, more_bit, data_size, size, fields_at}
+use Rattle.frame.specs.Judging.{known, same, front_fault, before, judge, judge_area, area_size, area_of, headed, and_then}
 use Rattle.frame.proofs.Fronts.{front_clear}
 use Rattle.frame.proofs.Heads.{headed_clear}
 use Rattle.frame.proofs.Walk.{judge-same, judge_last, judge_more}
-use Rattle.frame_writer.specs.Encoding.{size_in, header, trailer, encoded, area_for, total, laid_from}
-use Rattle.frame_writer.specs.Frames.{head_of, frame_of, ReadsAs, Written}
+use Rattle.frame_writer.specs.Encoding.{size_in, trailer, encoded, area_for, total, laid_from}
+use Rattle.frame_writer.specs.Frames.{frame_of, ReadsAs, Written}
 use Rattle.frame_writer.specs.Writers.{Valid, AllValid, Holds}
 use Rattle.frame_writer.specs.Adding.{frame_length}
 use Rattle.frame_writer.proofs.Steps.{length-encoded}

@@ -1,5 +1,5 @@
 -- A frame of some datagrams. Assumes nothing.
-use Rattle.std.specs.Prelude.{◌≡◌, ℕ, ◌+◌, ◌-◌, ◌/◌, ◌%◌, ◌≤◌, List, [], ◌∷◌, ◌++◌, length, take, drop, replicate, Ok}
+use Rattle.std.specs.Prelude.{◌≡◌, ℕ, ◌+◌, ◌-◌, ◌/◌, ◌%◌, ◌≤◌, List, [], ◌∷◌, ◌++◌, length, drop, replicate, Ok}
 use Rattle.frame.specs.Datagrams.{Fields, Placed}
 use Rattle.frame.specs.Judging.{judged, area_of, area_size}
 use Rattle.frame_writer.specs.Encoding.{area_for, total, laid_from, fields_in}

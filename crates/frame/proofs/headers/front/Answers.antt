@@ -1,16 +1,16 @@
-use Rattle.std.proofs.Common.{◌≡◌, ◌+◌, ◌-◌, ◌*◌, ◌%◌, length, take, drop, Some, sym, refl, ap, ◌∙◌, arith, rules}
+use Rattle.std.proofs.Common.{◌≡◌, ◌+◌, ◌-◌, ◌%◌, length, take, drop, Some, sym, ap, ◌∙◌, arith}
 use native.Mathlib.Nat.{sub-zero}
 use Rattle.std.proofs.lemmas.Result.{err_from_is_err_and, IfOk-from_err}
 use Rattle.frame.specs.Judging.{or_else, command_fault, fault_of}
-use Rattle.frame.specs.Headers.{header_at, fields_with}
+use Rattle.frame.specs.Headers.{fields_with}
 use Rattle.frame.specs.Words.{word}
-use Rattle.frame.specs.Datagrams.{data_size, Placed}
+use Rattle.frame.specs.Datagrams.{data_size}
 use Rattle.frame.proofs.Fronts.{front_is, size_fine}
 use Rattle.frame.proofs.headers.front.Goals as goal
 
 pub returns-in_err-token : goal.returns-in_err-token
 returns-in_err-token c =
-    let p = err_from_is_err_and c.from-residual.result c.from-residual.ensures.1 in
+    let p = err_from_is_err_and c.from_residual.result c.from_residual.ensures.1 in
     let h = c.in-Some.header in
     let s = c.in-Some.ensures in
     let t = c.in_err-token.ensures.value in
@@ -19,9 +19,9 @@ returns-in_err-token c =
           ap fault_of p.1 ∙ ap Some p.2 ∙ t
           ∙ ap (λ o. or_else o (command_fault c.in-Some.header.code c.args.at)) c.in_default-size_fault.ensures
           ∙ front_is c.args.area.now c.args.left c.args.at c.in-Some.header s.header s.long;
-      token = IfOk-from_err c.from-residual.result _ c.from-residual.ensures.0;
-      len = IfOk-from_err c.from-residual.result _ c.from-residual.ensures.0;
-      bound = IfOk-from_err c.from-residual.result _ c.from-residual.ensures.0;
+      token = IfOk-from_err c.from_residual.result _ c.from_residual.ensures.0;
+      len = IfOk-from_err c.from_residual.result _ c.from_residual.ensures.0;
+      bound = IfOk-from_err c.from_residual.result _ c.from_residual.ensures.0;
     }
 
 pub returns : goal.returns

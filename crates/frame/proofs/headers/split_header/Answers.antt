@@ -1,4 +1,4 @@
-use Rattle.std.proofs.Common.{◌≡◌, ◌≤◌, length, ap, ◌∙◌, arith, length-drop, rules}
+use Rattle.std.proofs.Common.{◌≤◌, length, ap, ◌∙◌, arith, length-drop, rules}
 use Rattle.std.proofs.lemmas.List.{take_rest}
 use Rattle.frame.proofs.headers.split_header.Goals as goal
 

@@ -1,14 +1,13 @@
-use Rattle.std.proofs.Common.{◌≡◌, ◌+◌, ◌-◌, ◌<◌, length, drop, Some, sym, refl, ap, ◌∙◌, arith, length-drop}
+use Rattle.std.proofs.Common.{◌+◌, ◌-◌, length, drop, Some, sym, ap, ◌∙◌, arith, length-drop}
 use Rattle.std.proofs.lemmas.List.{take_rest}
 use Rattle.std.proofs.lemmas.Result.{err_from_is_err_and}
 use Rattle.frame.specs.Judging.{judge_area, fault_of}
-use Rattle.frame.specs.Datagrams.{size}
 use Rattle.frame.proofs.Walk.{fault_more, fault_last, fault_here}
 use Rattle.frame.proofs.judging.check_area.Goals as goal
 
 pub returns-in_err-size : goal.returns-in_err-size
 returns-in_err-size c =
-    let p = err_from_is_err_and c.from-residual.result c.from-residual.ensures.1 in
+    let p = err_from_is_err_and c.from_residual.result c.from_residual.ensures.1 in
     ap fault_of p.1 ∙ ap Some p.2
     ∙ fault_here c.loop-size.rest.now c.loop-size.left c.loop-size.at _ c.in_err-size.ensures.value
     ∙ c.loop-size.invariant.2

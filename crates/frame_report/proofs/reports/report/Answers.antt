@@ -1,4 +1,4 @@
-use Rattle.std.proofs.Common.{◌≡◌, ◌+◌, ◌++◌, length, string_bytes, sym, ap, ◌∙◌, append_assoc, arith}
+use Rattle.std.proofs.Common.{◌+◌, ◌++◌, length, string_bytes, sym, ap, ◌∙◌, append_assoc, arith}
 use Rattle.text.specs.Lines.{lines_left, uncommented}
 use Rattle.frame_report.specs.Reports.{line_report, report_from}
 use Rattle.frame_report.proofs.reports.report.Goals as goal

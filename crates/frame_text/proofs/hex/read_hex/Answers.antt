@@ -1,4 +1,4 @@
-use Rattle.std.proofs.Common.{◌≡◌, ◌+◌, ◌<◌, IfSome, is_ok, vec_items, sym, ap, ◌∙◌, subst, inr}
+use Rattle.std.proofs.Common.{◌+◌, ◌<◌, IfSome, is_ok, vec_items, sym, ap, ◌∙◌, subst, inr}
 use Rattle.std.proofs.ResultArms.{chosen}
 use Rattle.frame_text.proofs.Pairs.{after_in, skips, first_digit, second_digit, no_digit, ends, odd}
 use Rattle.frame_text.proofs.hex.read_hex.Goals as goal
@@ -23,9 +23,9 @@ loop-b-preserved c =
                 ∙ ap (λ o. after_in (vec_items c.loop-b.bytes) o c.args.line.now c.loop-b.b-index) (sym w.in-None.is)
                 ∙ c.loop-b.invariant.1,
           ))
-      | goal.in-Some-high+in_ok-push w ↦
+      | goal.in-Some-high+in_ok-push-in-Some-high w ↦
           (let high = w.high-is in
-          let pushed = ap vec_items w.bytes-is ∙ chosen _ _ _ _ w.push.ensures.items (ap is_ok w.in_ok-push.was) in (
+          let pushed = ap vec_items w.bytes-is ∙ chosen _ _ _ _ w.push.ensures.items (ap is_ok w.in_ok-push-in-Some-high.was) in (
             subst (λ o. IfSome o (λ f. f < 16)) (sym high) tt,
             (λ i. after_in (pushed i) (high i) c.args.line.now (c.loop-b.b-index + 1))
                 ∙ second_digit (vec_items c.loop-b.bytes) w.in-Some-high.first c.in-Some.value c.args.line.now c.loop-b.b-index c.loop-b-test.true solid d.value

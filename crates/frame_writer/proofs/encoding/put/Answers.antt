@@ -1,4 +1,4 @@
-use Rattle.std.proofs.Common.{◌≡◌, ℕ, ◌+◌, List, ◌++◌, length, take, drop, sym, ap, ◌∙◌, subst, append_assoc, arith}
+use Rattle.std.proofs.Common.{◌≡◌, ℕ, ◌+◌, List, ◌++◌, length, take, drop, ap, ◌∙◌, subst, append_assoc, arith}
 use Rattle.frame.specs.Datagrams.{fields_of}
 use Rattle.frame_writer.specs.Encoding.{header, trailer}
 use Rattle.frame_writer.proofs.Steps.{further}

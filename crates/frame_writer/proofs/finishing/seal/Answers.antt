@@ -1,4 +1,4 @@
-use Rattle.std.proofs.Common.{◌≡◌, ℕ, ◌+◌, ◌-◌, ◌/◌, ◌≤◌, List, ◌++◌, length, take, drop, sym, refl, ap, ◌∙◌, subst, arith}
+use Rattle.std.proofs.Common.{◌+◌, ◌-◌, ◌/◌, ◌++◌, length, take, ap, ◌∙◌, arith}
 use Rattle.frame_writer.specs.Frames.{head_of}
 use Rattle.frame_writer.proofs.Ends.{sealed, kept, frame_long, frame_short, zeros, sixty, padding}
 use Rattle.frame_writer.proofs.Steps.{further}

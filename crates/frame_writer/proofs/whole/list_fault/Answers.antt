@@ -1,4 +1,4 @@
-use Rattle.std.proofs.Common.{◌≡◌, ◌<◌, ◌≤◌, length, sym, refl, ap, ◌∙◌, arith}
+use Rattle.std.proofs.Common.{length, sym, ◌∙◌, arith}
 use Rattle.std.proofs.lemmas.Bool.{eqb-true}
 use Rattle.frame_writer.proofs.Lists.{fault_here, fault_next, fault_end, fault_some, fault_none, fault_fits, some_left}
 use Rattle.frame_writer.proofs.whole.list_fault.Goals as goal

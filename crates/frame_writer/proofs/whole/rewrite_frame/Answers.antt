@@ -21,11 +21,11 @@ returns-then-bytes-lt-MAX_FRAME_BYTES c = record {
 pub loop-token-preserved : goal.loop-token-preserved
 loop-token-preserved c =
     let inv = c.loop-token.invariant in
-    let u = under_next (fields_in (left c.into-iter-token-iterator.result)) c.over-writer.result.buffer.now c.loop-token.writer inv.0.0 (fields_of c.datagram.result) (placed_of c.in-Some.token) (left c.loop-token.token-iterator) (left c.next.new.self) c.in-Some.ensures.steps c.datagram.ensures inv.0.1 in
+    let u = under_next (fields_in (left c.into_iter-token-iterator.result)) c.over-writer.result.buffer.now c.loop-token.writer inv.0.0 (fields_of c.datagram.result) (placed_of c.in-Some.token) (left c.loop-token.token-iterator) (left c.next.new.self) c.in-Some.ensures.steps c.datagram.ensures inv.0.1 in
     let e = c.in_ok-add.ensures in (
       (
         inv.0.0 ++ fields_of c.datagram.result ∷ [],
-        under_more (fields_in (left c.into-iter-token-iterator.result)) c.over-writer.result.buffer.now c.loop-token.writer c.add.new.self inv.0.0 (fields_of c.datagram.result) (fields_in (left c.next.new.self)) u (e.held inv.0.0 inv.0.1.held) e.len e.behind,
+        under_more (fields_in (left c.into_iter-token-iterator.result)) c.over-writer.result.buffer.now c.loop-token.writer c.add.new.self inv.0.0 (fields_of c.datagram.result) (fields_in (left c.next.new.self)) u (e.held inv.0.0 inv.0.1.held) e.len e.behind,
       ),
       e.len ∙ inv.1,
       e.same ∙ inv.2,
@@ -35,10 +35,10 @@ loop-token-preserved c =
 pub returns-in_err-add : goal.returns-in_err-add
 returns-in_err-add c =
     let inv = c.loop-token.invariant in
-    let accepted = ap (λ ts. Ok (left ts)) c.into-iter-token-iterator.ensures.into-iter-gives ∙ c.in_ok-tokens.ensures in
-    let k = rewritable c.args.frame.now (left c.into-iter-token-iterator.result) (λ i. (c.type-inv.frame i).fits) (sym accepted) in
-    let u = under_next (fields_in (left c.into-iter-token-iterator.result)) c.over-writer.result.buffer.now c.loop-token.writer inv.0.0 (fields_of c.datagram.result) (placed_of c.in-Some.token) (left c.loop-token.token-iterator) (left c.next.new.self) c.in-Some.ensures.steps c.datagram.ensures inv.0.1 in
-    let ok = under_adds (fields_in (left c.into-iter-token-iterator.result)) c.over-writer.result.buffer.now c.loop-token.writer inv.0.0 (fields_of c.datagram.result) (fields_in (left c.next.new.self)) k.clear u in
+    let accepted = ap (λ ts. Ok (left ts)) c.into_iter-token-iterator.ensures.into_iter_gives ∙ c.in_ok-tokens.ensures in
+    let k = rewritable c.args.frame.now (left c.into_iter-token-iterator.result) (λ i. (c.type_inv.frame i).fits) (sym accepted) in
+    let u = under_next (fields_in (left c.into_iter-token-iterator.result)) c.over-writer.result.buffer.now c.loop-token.writer inv.0.0 (fields_of c.datagram.result) (placed_of c.in-Some.token) (left c.loop-token.token-iterator) (left c.next.new.self) c.in-Some.ensures.steps c.datagram.ensures inv.0.1 in
+    let ok = under_adds (fields_in (left c.into_iter-token-iterator.result)) c.over-writer.result.buffer.now c.loop-token.writer inv.0.0 (fields_of c.datagram.result) (fields_in (left c.next.new.self)) k.clear u in
     let e = c.in_err-add.ensures.value ∙ ok in
     let z : ◌≡◌ {A = ℕ} 0 1 = cc in
     absurd (omega arith)
@@ -46,13 +46,13 @@ returns-in_err-add c =
 pub returns : goal.returns
 returns c =
     let inv = c.loop-token.invariant in
-    let accepted = ap (λ ts. Ok (left ts)) c.into-iter-token-iterator.ensures.into-iter-gives ∙ c.in_ok-tokens.ensures in
-    let k = rewritable c.args.frame.now (left c.into-iter-token-iterator.result) (λ i. (c.type-inv.frame i).fits) (sym accepted) in
+    let accepted = ap (λ ts. Ok (left ts)) c.into_iter-token-iterator.ensures.into_iter_gives ∙ c.in_ok-tokens.ensures in
+    let k = rewritable c.args.frame.now (left c.into_iter-token-iterator.result) (λ i. (c.type_inv.frame i).fits) (sym accepted) in
     let start = c.over-writer.ensures.bytes in
-    let u = under_all (fields_in (left c.into-iter-token-iterator.result)) c.over-writer.result.buffer.now c.loop-token.writer inv.0.0
-    (subst (λ ds. Under (fields_in (left c.into-iter-token-iterator.result)) c.over-writer.result.buffer.now c.loop-token.writer inv.0.0 (fields_in ds)) c.in-None.ensures.steps inv.0.1) in
-    let f = finished (fields_in (left c.into-iter-token-iterator.result)) c.over-writer.result.buffer.now c.loop-token.writer c.finish.new.self.0 c.finish.result k.clear inv.1 u c.finish.ensures.value c.finish.ensures.cases in
-    let r = rewritten c.args.frame.now c.over-writer.result.buffer.now c.finish.new.self.0 (left c.into-iter-token-iterator.result) c.finish.result (λ i. (c.type-inv.frame i).fits) accepted f in
+    let u = under_all (fields_in (left c.into_iter-token-iterator.result)) c.over-writer.result.buffer.now c.loop-token.writer inv.0.0
+    (subst (λ ds. Under (fields_in (left c.into_iter-token-iterator.result)) c.over-writer.result.buffer.now c.loop-token.writer inv.0.0 (fields_in ds)) c.in-None.ensures.steps inv.0.1) in
+    let f = finished (fields_in (left c.into_iter-token-iterator.result)) c.over-writer.result.buffer.now c.loop-token.writer c.finish.new.self.0 c.finish.result k.clear inv.1 u c.finish.ensures.value c.finish.ensures.cases in
+    let r = rewritten c.args.frame.now c.over-writer.result.buffer.now c.finish.new.self.0 (left c.into_iter-token-iterator.result) c.finish.result (λ i. (c.type_inv.frame i).fits) accepted f in
     let m = subst (λ (b : List ℕ). MatchResult c.finish.result (λ n. Rewritten b c.args.frame.now n c.finish.new.self.0) (λ _. c.finish.new.self.0 ≡ b)) start r.1 in
     let same = inv.2 ∙ c.over-writer.ensures.same in
     record {

@@ -9,4 +9,4 @@ abbrev pub invariant-loop-token : goal.invariant-loop-token
 invariant-loop-token l =
     ((done : List Fields) × Under (fields_in (left l.initial.token-iterator)) l.initial.writer.buffer.now l.writer done (fields_in (left l.token-iterator)))
     × (length l.writer.buffer.now ≡ length l.initial.writer.buffer.now)
-    × (l.writer.buffer.name ≡ l.initial.writer.buffer.name)
+    × (l.writer.buffer.ghost_name ≡ l.initial.writer.buffer.ghost_name)

@@ -6,4 +6,4 @@ abbrev pub invariant-loop-datagram : goal.invariant-loop-datagram
 invariant-loop-datagram l =
     UnderSlice l.datagrams l.initial.writer.buffer.now l.writer l.datagram-index
     × (length l.writer.buffer.now ≡ length l.initial.writer.buffer.now)
-    × (l.writer.buffer.name ≡ l.initial.writer.buffer.name)
+    × (l.writer.buffer.ghost_name ≡ l.initial.writer.buffer.ghost_name)

@@ -1,4 +1,4 @@
-use Rattle.std.proofs.Common.{◌≡◌, take}
+use Rattle.std.proofs.Common.{take}
 use Rattle.std.specs.Fmt.{IsPlainFormatter, HasWritten}
 use Rattle.frame_text.specs.Digits.{hex_bytes}
 use Rattle.frame_text.proofs.digits.HexBytesDisplay.fmt.Given as goal

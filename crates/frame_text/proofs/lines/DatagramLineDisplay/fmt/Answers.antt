@@ -1,4 +1,3 @@
-use Rattle.std.proofs.Common.{◌≡◌, refl, ap}
 use Rattle.std.proofs.Output.{has_written_of_eq}
 use Rattle.frame.specs.Datagrams.{fields_of}
 use Rattle.frame_text.specs.Lines.{line_for}

@@ -1,4 +1,4 @@
-use Rattle.std.proofs.Common.{◌≡◌, sym, ap}
+use Rattle.std.proofs.Common.{sym, ap}
 use Rattle.std.proofs.Output.{has_written_of_eq}
 use Rattle.frame_text.specs.Refusals.{words_of}
 use Rattle.frame_text.proofs.refusals.FaultWordsDisplay.fmt.Goals as goal

@@ -1,4 +1,4 @@
-use Rattle.std.proofs.Common.{◌≡◌, ◌+◌, ◌≤◌, length, sym, refl, arith, rules}
+use Rattle.std.proofs.Common.{sym, refl, arith, rules}
 use Rattle.frame.specs.Datagrams.{fields_of}
 use Rattle.frame_writer.specs.Encoding.{size_in, encoded}
 use Rattle.frame_writer.proofs.Steps.{addable, holds_more, laid, length-encoded}

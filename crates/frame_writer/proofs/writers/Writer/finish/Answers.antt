@@ -1,4 +1,4 @@
-use Rattle.std.proofs.Common.{◌<◌, arith, rules}
+use Rattle.std.proofs.Common.{◌<◌, rules}
 use Rattle.frame_writer.proofs.Round.{written}
 use Rattle.frame_writer.proofs.writers.Writer.finish.Goals as goal
 
