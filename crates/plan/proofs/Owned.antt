@@ -99,15 +99,15 @@ first_alone s ss e m i j k p q =
     let n = owns_right (windows s) (all_windows ss) r.0 k r.1 in
     omega (arith, one (all_windows (s ∷ ss)) e i n.0 k (owns_left (windows s) (all_windows ss) i k p) n.2, owns_within (windows s) i k p, n.1)
 
-same-window : (ss : List PlannedStation) → pair_meets (all_windows ss) ≡ false → (m n i j k : ℕ) → Owns (windows (get_or ss m bare)) i k → Owns (windows (get_or ss n bare)) j k → (m ≡ n) × (i ≡ j)
-same-window [] e m n i j k p q = absurd (no_bits i k p)
-same-window (s ∷ ss) e zero zero i j k p q =
+same_window : (ss : List PlannedStation) → pair_meets (all_windows ss) ≡ false → (m n i j k : ℕ) → Owns (windows (get_or ss m bare)) i k → Owns (windows (get_or ss n bare)) j k → (m ≡ n) × (i ≡ j)
+same_window [] e m n i j k p q = absurd (no_bits i k p)
+same_window (s ∷ ss) e zero zero i j k p q =
     (refl, one (all_windows (s ∷ ss)) e i j k (owns_left (windows s) (all_windows ss) i k p) (owns_left (windows s) (all_windows ss) j k q))
-same-window (s ∷ ss) e zero (suc n) i j k p q = absurd (first_alone s ss e n i j k p q)
-same-window (s ∷ ss) e (suc m) zero i j k p q = absurd (first_alone s ss e m j i k q p)
-same-window (s ∷ ss) e (suc m) (suc n) i j k p q =
+same_window (s ∷ ss) e zero (suc n) i j k p q = absurd (first_alone s ss e n i j k p q)
+same_window (s ∷ ss) e (suc m) zero i j k p q = absurd (first_alone s ss e m j i k q p)
+same_window (s ∷ ss) e (suc m) (suc n) i j k p q =
     let later = (or_parts (any_meet (windows s) (all_windows ss)) _ (or_parts (pair_meets (windows s)) _ (sym (pair_append (windows s) (all_windows ss)) ∙ e)).1).1 in
-    let r = same-window ss later m n i j k p q in
+    let r = same_window ss later m n i j k p q in
     (ap suc r.0, r.1)
 
 pub one_owner : (ss : List PlannedStation) → pair_meets (all_windows ss) ≡ false → (k : ℕ) (r : Option Owner) → r ≡ owner_from 0 ss k → OneOwner ss k r
@@ -118,7 +118,7 @@ one_owner ss e k (Some o) is =
     let found = direction_found (windows (get_or ss o.position.0 bare)) k o.direction (ap (λ m. direction_at (windows (get_or ss m bare)) k) (sym at) ∙ f.2) in (
       found,
       λ p b.
-          let same = same-window ss e p.position.0 o.position.0 b.0 found.0 k b.1 found.1 in
+          let same = same_window ss e p.position.0 o.position.0 b.0 found.0 k b.1 found.1 in
           let turned : p.direction ≡ o.direction = sym b.2 ∙ (λ t. (get_or (windows (get_or ss (same.0 t) bare)) (same.1 t) no_window).direction) ∙ found.2 in
           λ t. record { position = record { 0 = same.0 t }; direction = turned t },
     )

@@ -60,11 +60,11 @@ above : (d : Direction) (i : ℕ) → 0 ≡ place_of d i → ⊥
 above Output i e = omega arith
 above Input i e = omega arith
 
-same-owner : (o p : Option Owner) → Drawn o → Drawn p → place o ≡ place p → o ≡ p
-same-owner None None h k e = refl
-same-owner None (Some p) h k e = absurd (above p.direction p.position.0 e)
-same-owner (Some o) None h k e = absurd (above o.direction o.position.0 (sym e))
-same-owner (Some o) (Some p) h k e =
+same_owner : (o p : Option Owner) → Drawn o → Drawn p → place o ≡ place p → o ≡ p
+same_owner None None h k e = refl
+same_owner None (Some p) h k e = absurd (above p.direction p.position.0 e)
+same_owner (Some o) None h k e = absurd (above o.direction o.position.0 (sym e))
+same_owner (Some o) (Some p) h k e =
     let s = same_parts o.direction p.direction o.position.0 p.position.0 h k e in
     λ t. Some (record { position = record { 0 = s.1 t }; direction = s.0 t })
 
@@ -73,4 +73,4 @@ pub apart : (o p : Option Owner) → Drawn o → Drawn p → sign o ≡ sign p �
 apart o p h k e =
     let a = drawn o h in
     let b = drawn p k in
-    same-owner o p h k (one_place row (place o) (place p) 63 row_distinct a.0 b.0 (sym a.1 ∙ e ∙ b.1))
+    same_owner o p h k (one_place row (place o) (place p) 63 row_distinct a.0 b.0 (sym a.1 ∙ e ∙ b.1))
