@@ -18,7 +18,7 @@ import scapy
 
 import model
 
-BIN = Path(__file__).resolve().parents[2] / 'target' / 'bin'
+CRATES = Path(__file__).resolve().parents[2] / 'crates'
 LAYERS = {1: ethercat.EtherCatAPRD, 2: ethercat.EtherCatAPWR, 3: ethercat.EtherCatAPRW,
           4: ethercat.EtherCatFPRD, 5: ethercat.EtherCatFPWR, 6: ethercat.EtherCatFPRW,
           7: ethercat.EtherCatBRD, 8: ethercat.EtherCatBWR,
@@ -30,7 +30,7 @@ FIELDS = ('ecat.idx', 'ecat.adp', 'ecat.ado', 'ecat.lad', 'ecat.subframe.length'
 
 
 def run(program, text):
-    done = subprocess.run([str(BIN / program)], input=text.encode(), capture_output=True, check=True)
+    done = subprocess.run([str(CRATES / program / 'out' / program)], input=text.encode(), capture_output=True, check=True)
     return done.stdout.decode()
 
 
