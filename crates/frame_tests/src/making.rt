@@ -3,7 +3,7 @@ use frame::read_frame;
 use std::alloc::{AllocError, Global};
 
 // So many bytes of zero behind what is there.
-pub fn zeros(bytes: &mut Vec<u8>, count: usize) -> Result<(), AllocError> {
+pub(crate) fn zeros(bytes: &mut Vec<u8>, count: usize) -> Result<(), AllocError> {
     for _ in 0..count {
         bytes.push(0)?;
     }
@@ -11,7 +11,7 @@ pub fn zeros(bytes: &mut Vec<u8>, count: usize) -> Result<(), AllocError> {
 }
 
 // The first 16 bytes of a frame, with these in the EtherCAT header.
-pub fn head(heap: Global, low: u8, high: u8) -> Result<Vec<u8>, AllocError> {
+pub(crate) fn head(heap: Global, low: u8, high: u8) -> Result<Vec<u8>, AllocError> {
     let mut bytes = Vec::new(heap);
     bytes.extend_from_slice(&[0xff, 0xff, 0xff, 0xff, 0xff, 0xff, 2, 0, 0, 0, 0, 1])?;
     bytes.extend_from_slice(&[0x88, 0xa4, low, high])?;
@@ -19,7 +19,7 @@ pub fn head(heap: Global, low: u8, high: u8) -> Result<Vec<u8>, AllocError> {
 }
 
 // A frame of this length whose header says `size` bytes of datagrams, and which has these.
-pub fn frame(
+pub(crate) fn frame(
     heap: Global,
     size: u16,
     datagrams: &[u8],
@@ -35,7 +35,12 @@ pub fn frame(
 
 // A frame of this length with one datagram of that command, whose length and flags are these, over as
 // many bytes of zero as the length says.
-pub fn single(heap: Global, command: u8, size: u16, length: usize) -> Result<Vec<u8>, AllocError> {
+pub(crate) fn single(
+    heap: Global,
+    command: u8,
+    size: u16,
+    length: usize,
+) -> Result<Vec<u8>, AllocError> {
     let data = size % 2048;
     let mut datagram = Vec::new(heap);
     let flags = [(size % 256) as u8, (size / 256) as u8];
@@ -46,7 +51,7 @@ pub fn single(heap: Global, command: u8, size: u16, length: usize) -> Result<Vec
 }
 
 // How many datagrams the frame has, or the number and the place of its refusal.
-pub fn judged(frame: &[u8]) -> Result<usize, (u16, usize)> {
+pub(crate) fn judged(frame: &[u8]) -> Result<usize, (u16, usize)> {
     match read_frame(frame) {
         Ok(tokens) => {
             let mut count = 0usize;
