@@ -40,12 +40,11 @@ pub enum CommandKind {
     Unlisted,
 }
 
-impl Command {
-    // The command that has this code.
-    pub fn of(code: u8) -> Command
-        ensures value { result ≡ command_of code }
-        ensures back { code_of result ≡ code }
-    {
+// The command that has this code.
+impl From<u8> for Command {
+    ghost from_gives = { λ code command. (command ≡ command_of code) × (code_of command ≡ code) };
+
+    fn from(code: u8) -> Command {
         match code {
             0 => Command::Nop,
             1 => Command::Aprd,
@@ -62,12 +61,14 @@ impl Command {
             _ => Command::Unlisted(code),
         }
     }
+}
 
-    // The code that stands for it on the wire.
-    pub fn code(self) -> u8
-        ensures { result ≡ code_of self }
-    {
-        match self {
+// The code that stands for it on the wire.
+impl From<Command> for u8 {
+    ghost from_gives = { λ command code. code ≡ code_of command };
+
+    fn from(command: Command) -> u8 {
+        match command {
             Command::Nop => 0,
             Command::Aprd => 1,
             Command::Apwr => 2,
@@ -83,7 +84,9 @@ impl Command {
             Command::Unlisted(code) => code,
         }
     }
+}
 
+impl Command {
     pub fn kind(self) -> CommandKind
         ensures { result ≡ kind_of self }
     {
@@ -94,9 +97,7 @@ impl Command {
             _ => CommandKind::Physical,
         }
     }
-}
 
-impl Command {
     // The name that the standard gives it.
     pub fn name(&self) -> &'static str
         ensures { result.now ≡ name_of self.now }

@@ -81,7 +81,7 @@ impl Header {
             irq,
             ..
         } = self;
-        let command = Command::of(code);
+        let command = Command::from(code);
         let address = joined(self.low, self.high);
         let offset = at + DATAGRAM_HEADER_BYTES;
         match command.kind() {

@@ -189,18 +189,18 @@ fn unlisted_commands_are_refused(rt: HostRuntime) -> Result<(), Fail> {
 
 #[test]
 fn commands_classify_themselves(rt: HostRuntime) {
-    assert_eq!(rt; Command::of(0).kind(), CommandKind::Idle);
+    assert_eq!(rt; Command::from(0).kind(), CommandKind::Idle);
     for code in 1..=8u8 {
-        assert_eq!(rt; Command::of(code).kind(), CommandKind::Physical);
+        assert_eq!(rt; Command::from(code).kind(), CommandKind::Physical);
     }
     for code in 10..=12u8 {
-        assert_eq!(rt; Command::of(code).kind(), CommandKind::Logical);
+        assert_eq!(rt; Command::from(code).kind(), CommandKind::Logical);
     }
-    assert_eq!(rt; Command::of(9), Command::Unlisted(9));
+    assert_eq!(rt; Command::from(9), Command::Unlisted(9));
     for code in 13..=255u8 {
-        assert_eq!(rt; Command::of(code).kind(), CommandKind::Unlisted);
-        assert_eq!(rt; Command::of(code).code(), code);
+        assert_eq!(rt; Command::from(code).kind(), CommandKind::Unlisted);
+        assert_eq!(rt; u8::from(Command::from(code)), code);
     }
-    assert_eq!(rt; Command::of(7).name(), "BRD");
-    assert_eq!(rt; Command::of(12).name(), "LRW");
+    assert_eq!(rt; Command::from(7).name(), "BRD");
+    assert_eq!(rt; Command::from(12).name(), "LRW");
 }

@@ -24,7 +24,7 @@ fn header_bytes(datagram: &Datagram<'_>) -> [u8; 10]
     let irq = datagram.irq;
     let size = datagram.data.len();
     [
-        datagram.command.code(),
+        u8::from(datagram.command),
         datagram.index,
         (address % 256) as u8,
         (address / 256 % 256) as u8,
