@@ -23,6 +23,7 @@ impl<T: Drop> From<NoRoom<T>> for HexError {
     }
 }
 
+// Written out: a derive would not say which bytes are written.
 impl fmt::Display for HexError {
     ghost output = { λ e. Some (hex_words e) };
 
