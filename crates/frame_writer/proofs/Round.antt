@@ -1,6 +1,6 @@
 -- What is written is read. Assumes nothing.
-use Rattle.std.proofs.Common.{◌≡◌, ℕ, suc, ◌+◌, ◌-◌, ◌*◌, ◌/◌, ◌%◌, ◌<◌, ◌≤◌, true, ltb, List, [], ◌∷◌, ◌++◌, length, get_or, take, drop, replicate, None, Ok, sym, refl, ap, ◌∙◌, subst, append_assoc, append-nil, add-zero, arith}
-use Rattle.std.proofs.lemmas.List.{length-append, take_at, drop_at, get_or-append-add, length-replicate, take-append-drop}
+use Rattle.std.proofs.Common.{◌≡◌, ℕ, suc, ◌+◌, ◌-◌, ◌*◌, ◌/◌, ◌%◌, ◌<◌, ◌≤◌, true, ltb, List, [], ◌∷◌, ◌++◌, length, get_or, take, drop, replicate, Some, None, Ok, sym, refl, ap, ◌∙◌, subst, append_assoc, append-nil, add-zero, arith}
+use Rattle.std.proofs.lemmas.List.{length-append, take_at, drop_at, get_or-append-add, length-replicate}
 use Rattle.std.proofs.lemmas.Bool.{le-ltb, lt-ltb, le-leb, lt-leb}
 use Rattle.command.specs.declared.Command.{Command}
 use Rattle.command.specs.declared.Command.TheVariants.{Nop, Aprd, Apwr, Aprw, Fprd, Fpwr, Fprw, Brd, Bwr, Lrd, Lwr, Lrw, Unlisted}
@@ -12,8 +12,9 @@ use Rattle.frame.proofs.Fronts.{front_clear}
 use Rattle.frame.proofs.Heads.{headed_clear}
 use Rattle.frame.proofs.Walk.{judge-same, judge_last, judge_more}
 use Rattle.frame_writer.specs.Encoding.{size_in, trailer, encoded, area_for, total, laid_from}
-use Rattle.frame_writer.specs.Frames.{frame_of, ReadsAs, Written}
-use Rattle.frame_writer.specs.Writers.{Valid, AllValid, Holds}
+use Rattle.frame_writer.specs.Frames.{frame_of, over, ReadsAs, Written}
+use Rattle.frame_writer.specs.declared.writers.Laid.{Laid}
+use Rattle.frame_writer.specs.Writers.{end_after, Valid, AllValid, Holds}
 use Rattle.frame_writer.specs.Adding.{frame_length}
 use Rattle.frame_writer.proofs.Steps.{length-encoded}
 
@@ -194,14 +195,13 @@ frame_reads d ds v few =
     }
 
 -- a frame that was finished over a buffer
-pub written : (b c : List ℕ) (end last size n : ℕ) (ds : List Fields) → Holds b end last size ds → 16 < end → end ≤ 1514 → n ≡ frame_length end → take n c ≡ frame_of ds → drop n c ≡ drop n b → Written b ds n c
-written b c end last size n [] h some high len front back = absurd (omega (arith, h.ends))
-written b c end last size n (d ∷ ds) h some high len front back =
+pub written : (b c : List ℕ) (last : Laid) (n : ℕ) (ds : List Fields) → Holds b (Some last) ds → n ≡ frame_length (end_after (Some last)) → c ≡ over (frame_of ds) b → Written b ds n c
+written b c last n [] h len is = let e = h.ends in absurd (omega arith)
+written b c last n (d ∷ ds) h len is =
     let e = h.ends in
     let l = length_frame (d ∷ ds) in
-    let same : n ≡ length (frame_of (d ∷ ds)) = omega arith in
     record {
-      frame = sym (take-append-drop n c) ∙ (λ i. front i ++ back i) ∙ ap (λ k. frame_of (d ∷ ds) ++ drop k b) same;
-      len = same;
+      frame = is;
+      len = omega arith;
       trip = frame_reads d ds h.valid (omega arith);
     }

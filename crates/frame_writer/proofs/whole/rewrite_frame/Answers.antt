@@ -1,5 +1,4 @@
-use Rattle.std.proofs.Common.{◌≡◌, ℕ, ltb, List, [], ◌∷◌, ◌++◌, length, Ok, sym, refl, ap, ◌∙◌, subst, arith, rules, MatchResult}
-use Rattle.std.proofs.lemmas.Bool.{cond-true, lt-ltb}
+use Rattle.std.proofs.Common.{◌≡◌, ℕ, List, [], ◌∷◌, ◌++◌, length, Ok, sym, ap, ◌∙◌, subst, arith, rules, MatchResult}
 use Rattle.frame.specs.Datagrams.{fields_of, placed_of}
 use Rattle.frame.specs.Judging.{judged}
 use Rattle.frame.specs.Reading.{left}
@@ -9,14 +8,6 @@ use Rattle.frame_writer.specs.Frames.{Rewritten}
 use Rattle.frame_writer.proofs.Again.{rewritable, rewritten}
 use Rattle.frame_writer.proofs.Lists.{Under, under_adds, under_more, under_next, under_all, finished, back}
 use Rattle.frame_writer.proofs.whole.rewrite_frame.Goals as goal
-
-pub returns-then-bytes-lt-MAX_FRAME_BYTES : goal.returns-then-bytes-lt-MAX_FRAME_BYTES
-returns-then-bytes-lt-MAX_FRAME_BYTES c = record {
-  value =
-      sym (cond-true (ltb (length c.args.buffer.now) 1514) _ _ (lt-ltb (length c.args.buffer.now) 1514 c.if-bytes-lt-MAX_FRAME_BYTES.true))
-      ∙ ap (rewrite_answer (length c.args.buffer.now)) c.in_ok-tokens.ensures;
-  cases = refl;
-}
 
 pub loop-token-preserved : goal.loop-token-preserved
 loop-token-preserved c =
