@@ -14,11 +14,11 @@ use Rattle.frame.proofs.Heads.{headed_sound}
 use Rattle.frame.proofs.Walk.{clear_front, handed_none, before_fault, judge_more, accepted}
 use Rattle.std.proofs.lemmas.Result.{MatchResult-weaker}
 use Rattle.frame_writer.specs.declared.faults.WriteFault.{WriteFault}
-use Rattle.frame_writer.specs.Adding.{add_fault, list_fault, write_fault, write_answer, rewrite_answer, unless, in_buffer, frame_length}
+use Rattle.frame_writer.specs.Adding.{list_fault, write_fault, write_answer, rewrite_answer, unless, in_buffer, frame_length}
 use Rattle.frame_writer.specs.Frames.{Written, Rewritten}
 use Rattle.frame_writer.specs.Encoding.{size_in, trailer, encoded, area_for, total, fields_in}
 use Rattle.frame_writer.specs.Writers.{Valid, AllValid}
-use Rattle.frame_writer.proofs.Lists.{add_fits, write_fits}
+use Rattle.frame_writer.proofs.Lists.{add_clear, write_fits}
 use Rattle.frame_writer.proofs.Round.{length_area, frame_size, frame_area}
 
 abbrev pub Bytes : List ℕ → Type 0
@@ -207,8 +207,7 @@ again (suc f) area p small few h =
 list_clear : (ds : List Fields) (p : ℕ) → AllValid ds → p + total ds ≤ 1514 → list_fault p ds ≡ None
 list_clear [] p v few = refl
 list_clear (d ∷ ds) p v few =
-    let k : p + 0 ≡ p = omega arith in
-    ap (λ o. or_else o (list_fault (p + size_in d) ds)) (ap (λ n. add_fault n d) (sym k) ∙ add_fits [] d ds p v few)
+    ap (λ o. or_else o (list_fault (p + size_in d) ds)) (add_clear p d (record { valid = v.0; fits = omega arith }))
     ∙ list_clear ds (p + size_in d) v.1 (omega arith)
 
 write_clear : (ps : List Placed) → 0 < length ps → AllValid (fields_in ps) → total (fields_in ps) ≤ 1498 → write_fault (fields_in ps) ≡ None
@@ -254,7 +253,7 @@ rewritable bytes ds small h =
 pub rewritten : (frame before c : List ℕ) (ds : List Placed) (r : Result ℕ WriteFault) → Bytes frame → Ok ds ≡ judged frame → (r ≡ write_answer (length before) (fields_in ds)) × MatchResult r (λ n. Written before (fields_in ds) n c) (λ _. c ≡ before) → (r ≡ rewrite_answer (length before) (judged frame)) × MatchResult r (λ n. Rewritten before frame n c) (λ _. c ≡ before)
 rewritten frame before c ds r small h w =
     let k = rewritable frame ds small (sym h) in
-    let few : total (fields_in ds) ≤ 1498 = (write_fits (fields_in ds) k.clear).0.few in (
+    let few : total (fields_in ds) ≤ 1498 = (write_fits (fields_in ds) k.clear).few in (
       w.0 ∙ ap (λ o. unless o (in_buffer (length before) (frame_length (16 + total (fields_in ds))))) k.clear ∙ ap (rewrite_answer (length before)) h,
       MatchResult-weaker r w.1 (λ n y. record {
         datagrams = ds;
