@@ -12,8 +12,8 @@ use Rattle.frame_writer.proofs.Round.{length_area, length_frame}
 use Rattle.frame_writer.proofs.Steps.{length-encoded}
 
 pub last_shift : (d : Fields) (ds : List Fields) (p : ℕ) → last_from p (d ∷ ds) ≡ p + last_from 0 (d ∷ ds)
-last_shift d [] p = sym (add-zero p)
-last_shift d (e ∷ ds) p = let a = last_shift e ds (p + size_in d) in let b = last_shift e ds (0 + size_in d) in omega arith
+last_shift d [] p = omega arith
+last_shift d (e ∷ ds) p = omega (arith, last_shift e ds (p + size_in d), last_shift e ds (0 + size_in d))
 
 -- without the last flag, datagrams that others follow are the datagrams of a frame
 closed : (ds : List Fields) → set (followed ds) (last_from 0 ds + 7) (last_size ds / 256) ≡ area_for ds
@@ -78,7 +78,5 @@ frame_short b zs ds end e h w =
     let front = take_at (head_of (total ds) ++ area_for ds) (drop end b) end (omega arith) in
     let back = ap (drop (60 - end)) (drop_at (head_of (total ds) ++ area_for ds) (drop end b) end (omega arith)) ∙ drop-drop (60 - end) end b in
     (λ j. front j ++ (pad j ++ back j))
-    ∙ ap (λ i. (head_of (total ds) ++ area_for ds) ++ (replicate (44 - total ds) 0 ++ drop i b)) n
-    ∙ append_assoc (head_of (total ds)) (area_for ds) (replicate (44 - total ds) 0 ++ drop (length (frame_of ds)) b)
-    ∙ ap (λ x. head_of (total ds) ++ x) (sym (append_assoc (area_for ds) (replicate (44 - total ds) 0) (drop (length (frame_of ds)) b)))
-    ∙ sym (append_assoc (head_of (total ds)) (area_for ds ++ replicate (44 - total ds) 0) (drop (length (frame_of ds)) b))
+    ∙ (λ i. (head_of (total ds) ++ area_for ds) ++ (replicate (44 - total ds) 0 ++ drop (n i) b))
+    ∙ simp append_assoc

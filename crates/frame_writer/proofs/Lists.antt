@@ -1,11 +1,10 @@
 -- Datagrams of which none is refused. Assumes nothing.
-use Rattle.std.proofs.Common.{◌≡◌, ℕ, ◌+◌, ◌-◌, ◌<◌, ◌≤◌, not, eqb, ltb, List, [], ◌∷◌, ◌++◌, map, length, get_or, drop, None, Ok, Err, Result, sym, ap, ◌∙◌, subst, append_assoc, append-nil, arith, MatchResult}
+use Rattle.std.proofs.Common.{◌≡◌, ℕ, ◌+◌, ◌-◌, ◌<◌, ◌≤◌, ltb, List, [], ◌∷◌, ◌++◌, map, length, get_or, drop, None, Ok, Err, Result, sym, ap, ◌∙◌, subst, append_assoc, append-nil, arith, MatchResult}
 use Rattle.std.proofs.lemmas.List.{drop_more}
-use Rattle.std.proofs.lemmas.Bool.{le-ltb, le-leb, ne_eqb, not_from_true, and_from, cond-true, cond-false}
+use Rattle.std.proofs.lemmas.Bool.{le-ltb, cond-false}
 use Rattle.std.proofs.lemmas.Bool.Decides.{nat_tests}
 use Rattle.frame.specs.declared.datagrams.Datagram.{Datagram}
 use Rattle.frame.specs.Datagrams.{Fields, Placed, fields_of}
-use Rattle.frame.specs.Judging.{known, data_in_range}
 use Rattle.frame.proofs.Fronts.{or_none}
 use Rattle.frame_writer.specs.declared.faults.WriteFault.{WriteFault}
 use Rattle.frame_writer.specs.Adding.{add_fault, add_answer, unless, in_buffer, list_fault, write_fault, write_answer, finish_answer, frame_length}
@@ -42,10 +41,7 @@ write_fits (d ∷ ds) h =
 
 -- a datagram that a frame may have, and for which there is room, is not refused
 pub add_clear : (p : ℕ) (d : Fields) → Addable p d → add_fault p d ≡ None
-add_clear p d a =
-    cond-false (not (data_in_range (length d.bytes))) _ _ (not_from_true _ (and_from _ _ (le-leb 1 (length d.bytes) a.valid.some) (le-leb (length d.bytes) 1486 a.valid.few)))
-    ∙ cond-false (ltb 1514 (p + size_in d)) _ _ (le-ltb 1514 (p + size_in d) a.fits)
-    ∙ cond-true (known d.command) _ _ a.valid.listed
+add_clear p d a = grind (arith, nat_tests)
 
 -- nor is one between others that fit with it
 add_fits : (done : List Fields) (d : Fields) (left : List Fields) (p : ℕ) → AllValid (done ++ d ∷ left) → p + total (done ++ d ∷ left) ≤ 1514 → Addable (p + total done) d
@@ -105,16 +101,10 @@ under_next {all} {start} {w} {d} {t} {ts} {rest} is same u = subst (Under all st
 -- What a finished frame answers and leaves, when nothing is left.
 
 finish_answers : (bytes end : ℕ) (ds : List Fields) → write_fault ds ≡ None → end ≡ 16 + total ds → finish_answer bytes end ≡ write_answer bytes ds
-finish_answers bytes end ds clear e =
-    let some = (write_fits ds clear).some in
-    cond-false (eqb end 16) _ _ (ne_eqb end 16 (λ same. omega arith))
-    ∙ ap (λ n. in_buffer bytes (frame_length n)) e
-    ∙ ap (λ o. unless o (in_buffer bytes (frame_length (16 + total ds)))) (sym clear)
+finish_answers bytes end ds clear e = let some = (write_fits ds clear).some in grind (arith, nat_tests)
 
 long_answers : (bytes : ℕ) (ds : List Fields) → write_fault ds ≡ None → 1514 ≤ bytes → write_answer bytes ds ≡ Ok (frame_length (16 + total ds))
-long_answers bytes ds clear long =
-    ap (λ o. unless o (in_buffer bytes (frame_length (16 + total ds)))) clear
-    ∙ cond-false (ltb bytes 1514) _ _ (le-ltb bytes 1514 long)
+long_answers bytes ds clear long = grind (arith, nat_tests)
 
 -- a frame finished over a buffer is written over what the buffer held at first
 written_first : (start b c : List ℕ) (end n : ℕ) (ds : List Fields) → end ≡ 16 + total ds → drop end b ≡ drop end start → Written b ds n c → Written start ds n c

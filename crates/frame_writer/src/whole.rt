@@ -28,6 +28,7 @@ fn check_list(datagrams: &[Datagram<'_>]) -> Result<(), FrameFault>
 
 // Writes a frame of these datagrams over the first bytes of the buffer and says how long it is, or
 // says why not and alters nothing. Read again, the frame gives the datagrams.
+// A count, as `Read::read` gives: the buffer is the caller's, and longer than the frame.
 pub fn write_frame(buffer: &mut [u8], datagrams: &[Datagram<'_>]) -> Result<usize, WriteFault>
     ensures value { result ≡ write_answer (length buffer.old) (map fields_of datagrams.now) }
     ensures cases { MatchResult result (λ n. Written buffer.old (map fields_of datagrams.now) n buffer.new) (λ _. buffer.new ≡ buffer.old) }
@@ -50,6 +51,7 @@ pub fn rewrite_frame(buffer: &mut [u8], frame: &[u8]) -> Result<usize, WriteFaul
     let tokens = read_frame(frame)?;
     check_buffer(buffer)?;
     let mut writer = Writer::over(buffer);
+    // A loop of its own: one over any iterator would have to be told which datagrams that gives.
     for token in tokens {
         writer.add(&token.datagram())?;
     }
