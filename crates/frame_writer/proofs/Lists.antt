@@ -1,13 +1,12 @@
 -- Datagrams of which none is refused. Assumes nothing.
-use Rattle.std.proofs.Common.{◌≡◌, ℕ, ◌+◌, ◌-◌, ◌<◌, ◌≤◌, ltb, List, [], ◌∷◌, ◌++◌, map, length, get_or, drop, None, Ok, Err, Result, sym, ap, ◌∙◌, subst, append_assoc, append-nil, arith, MatchResult}
+use Rattle.std.proofs.Common.{◌≡◌, ℕ, ◌+◌, ◌-◌, ◌<◌, ◌≤◌, List, [], ◌∷◌, ◌++◌, map, length, get_or, drop, None, Ok, Err, Result, sym, ap, ◌∙◌, subst, append_assoc, append-nil, arith, MatchResult}
 use Rattle.std.proofs.lemmas.List.{drop_more}
-use Rattle.std.proofs.lemmas.Bool.{le-ltb, cond-false}
 use Rattle.std.proofs.lemmas.Bool.Decides.{nat_tests}
 use Rattle.frame.specs.declared.datagrams.Datagram.{Datagram}
 use Rattle.frame.specs.Datagrams.{Fields, Placed, fields_of}
 use Rattle.frame.proofs.Fronts.{or_none}
 use Rattle.frame_writer.specs.declared.faults.WriteFault.{WriteFault}
-use Rattle.frame_writer.specs.Adding.{add_fault, add_answer, unless, in_buffer, list_fault, write_fault, write_answer, finish_answer, frame_length}
+use Rattle.frame_writer.specs.Adding.{add_fault, add_answer, in_buffer, list_fault, write_fault, write_answer, finish_answer, frame_length}
 use Rattle.frame_writer.specs.Encoding.{size_in, total, fields_in}
 use Rattle.frame_writer.specs.declared.writers.Writer.{Writer}
 use Rattle.frame_writer.specs.Writers.{AllValid, holds, end_of}
@@ -43,12 +42,13 @@ write_fits (d ∷ ds) h =
 pub add_clear : (p : ℕ) (d : Fields) → Addable p d → add_fault p d ≡ None
 add_clear p d a = grind (arith, nat_tests)
 
+accepts : (bytes end : ℕ) (d : Fields) → 1514 ≤ bytes → Addable end d → add_answer bytes end d ≡ Ok tt
+accepts bytes end d long a = grind (arith, nat_tests)
+
 -- nor is one between others that fit with it
 add_fits : (done : List Fields) (d : Fields) (left : List Fields) (p : ℕ) → AllValid (done ++ d ∷ left) → p + total (done ++ d ∷ left) ≤ 1514 → Addable (p + total done) d
 add_fits [] d left p v few = record { valid = v.0; fits = omega arith }
-add_fits (e ∷ done) d left p v few =
-    let r = add_fits done d left (p + size_in e) v.1 (omega arith) in
-    record { valid = r.valid; fits = omega (arith, r.fits) }
+add_fits (e ∷ done) d left p v few = grind (arith, add_fits done d left (p + size_in e) v.1 (omega arith))
 
 -- a buffer that serves is long enough
 pub served : {x : Unit {0}} {n : ℕ} → Ok x ≡ in_buffer n tt → 1514 ≤ n
@@ -71,9 +71,8 @@ under_adds {all} {start} {w} {d} {left} none long u =
     let len = u.len in
     let v : AllValid (u.done ++ d ∷ left) = subst AllValid (sym u.parts) f.valid in
     let few : total (u.done ++ d ∷ left) ≤ 1498 = subst (λ x. total x ≤ 1498) (sym u.parts) f.few in
-    let clear : add_fault (end_of w) d ≡ None = ap (λ n. add_fault n d) e ∙ add_clear (16 + total u.done) d (add_fits u.done d left 16 v (omega arith)) in
-    ap (λ o. unless o (in_buffer (length w.buffer.now) tt)) clear
-    ∙ cond-false (ltb (length w.buffer.now) 1514) _ _ (le-ltb (length w.buffer.now) 1514 (omega arith))
+    let a : Addable (end_of w) d = subst (λ n. Addable n d) (sym e) (add_fits u.done d left 16 v (omega arith)) in
+    accepts (length w.buffer.now) (end_of w) d (omega arith) a
 
 -- and then it is written too
 pub under_more : {all : List Fields} {start : List ℕ} {w w' : Writer} {d : Fields} {left : List Fields} → Under all start w (d ∷ left) → ((ds : List Fields) → holds w ds → holds w' (ds ++ d ∷ [])) → length w'.buffer.now ≡ length w.buffer.now → drop (end_of w') w'.buffer.now ≡ drop (end_of w') w.buffer.now → Under all start w' left
