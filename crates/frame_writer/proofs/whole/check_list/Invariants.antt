@@ -1,7 +1,7 @@
 use Rattle.std.proofs.Common.{◌≡◌, ◌≤◌, map, drop}
 use Rattle.frame.specs.Datagrams.{fields_of}
 use Rattle.frame_writer.specs.Adding.{list_fault}
-use Rattle.frame_writer.proofs.whole.list_fault.Given as goal
+use Rattle.frame_writer.proofs.whole.check_list.Given as goal
 
 abbrev pub invariant-loop-datagram : goal.invariant-loop-datagram
 invariant-loop-datagram l =
