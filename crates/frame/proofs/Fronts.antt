@@ -1,14 +1,12 @@
 -- What is known of the datagram at the front of an area. Assumes nothing.
-use Rattle.std.proofs.Common.{◌≡◌, ℕ, ◌+◌, ◌≤◌, Bool, true, false, cond, not, eqb, ltb, leb, List, length, get_or, Some, None, Option, sym, refl, ap, ◌∙◌, arith}
+use Rattle.std.proofs.Common.{◌≡◌, ℕ, ◌+◌, ◌≤◌, Bool, true, false, cond, not, eqb, ltb, leb, List, length, get_or, Some, None, Option, refl, ap, ◌∙◌, arith}
 use Rattle.std.proofs.lemmas.Bool.{ltb-false, le-ltb, leb-true, le-leb, eqb-true, eq-eqb, not-false, not_from_true, and_parts, and_from, cond-true, cond-false}
 use Rattle.command.specs.Codes.{command_of}
 use Rattle.frame.specs.declared.faults.FrameFault.{FrameFault}
 use Rattle.frame.specs.declared.faults.FrameFault.TheVariants.{Passes, DataLength, Reserved, More, Unlisted}
-use Rattle.frame.specs.declared.headers.Header.{Header}
 use Rattle.frame.specs.Words.{word}
 use Rattle.frame.specs.Datagrams.{data_bits, reserved_bits, more_bit}
 use Rattle.frame.specs.Judging.{known, same, data_in_range, size_fault, command_fault, or_else, front_fault}
-use Rattle.frame.specs.Headers.{header_at}
 
 -- a test that would give a fault has failed where there is none
 pub passed : (e : FrameFault) (b : Bool) (y : Option FrameFault) → cond b (Some e) y ≡ None → (b ≡ false) × (y ≡ None)
@@ -76,9 +74,3 @@ front_clear area z p f =
     cond-false (ltb (length area) 10) _ _ (le-ltb (length area) 10 f.long)
     ∙ ap (λ o. or_else o (command_fault (get_or area 0 0) p)) (size_clear (word area 6) (length area) z p f.sized)
     ∙ cond-true (known (command_of (get_or area 0 0))) _ _ f.listed
-
--- the same by the header that was split off
-pub front_is : (area : List ℕ) (z p : ℕ) (h : Header) → h ≡ header_at area → 10 ≤ length area → or_else (size_fault h.size (length area) z p) (command_fault h.code p) ≡ front_fault area z p
-front_is area z p h e long =
-    ap (λ x. or_else (size_fault x.size (length area) z p) (command_fault x.code p)) e
-    ∙ sym (cond-false (ltb (length area) 10) (Some (Passes p)) _ (le-ltb (length area) 10 long))

@@ -4,7 +4,7 @@ ghost use Rattle.frame.specs.Datagrams.{placed_of, placed_at, size as size_at};
 ghost use Rattle.frame.specs.Judging.{front_fault, fault_of, size_fault, command_fault};
 ghost use Rattle.frame.specs.Headers.{SplitOff, fields_with};
 
-use crate::datagrams::{Token, joined};
+use crate::datagrams::{Part, Token};
 use crate::faults::FrameFault;
 use crate::limits::{DATAGRAM_EXTRA_BYTES, DATAGRAM_HEADER_BYTES, MAX_DATA_BYTES};
 use command::{Command, CommandKind};
@@ -14,19 +14,10 @@ use command::{Command, CommandKind};
 pub(crate) struct Header {
     code: u8,
     index: u8,
-    // the halves of the address
-    low: u16,
-    high: u16,
+    address: u32,
     // the length of the data, and the flags
     size: u16,
     irq: u16,
-}
-
-// A 16-bit number of its bytes.
-pub(crate) fn word(low: u8, high: u8) -> u16
-    ensures { result ≡ low + 256 * high }
-{
-    u16::from(low) + 256 * u16::from(high)
 }
 
 // The header, and what follows it.
@@ -39,33 +30,32 @@ fn split_header(area: &[u8]) -> Option<(Header, &[u8])>
     let header = Header {
         code: *code,
         index: *index,
-        low: word(*a0, *a1),
-        high: word(*a2, *a3),
-        size: word(*l0, *l1),
-        irq: word(*q0, *q1),
+        address: u32::from_le_bytes([*a0, *a1, *a2, *a3]),
+        size: u16::from_le_bytes([*l0, *l1]),
+        irq: u16::from_le_bytes([*q0, *q1]),
     };
     Some((header, rest))
 }
 
-// What is wrong with a datagram's length, its flags and its end. So many bytes are there, and so
-// many are left by the frame's header.
-fn size_fault(size: u16, there: usize, left: usize, at: usize) -> Option<FrameFault>
-    ensures { result ≡ size_fault size there left at }
+// Judges a datagram's length, its flags and its end. So many bytes are there, and so many are left
+// by the frame's header.
+fn check_size(size: u16, there: usize, left: usize, at: usize) -> Result<(), FrameFault>
+    ensures { fault_of result ≡ size_fault size there left at }
 {
     let bytes = usize::from(size % 2048);
     if bytes < 1 || bytes > MAX_DATA_BYTES {
-        return Some(FrameFault::DataLength { at, bytes });
+        return Err(FrameFault::DataLength { at, bytes });
     }
     if size / 2048 % 16 != 0 {
-        return Some(FrameFault::Reserved { at });
+        return Err(FrameFault::Reserved { at });
     }
     if there < bytes + DATAGRAM_EXTRA_BYTES {
-        return Some(FrameFault::Passes { at });
+        return Err(FrameFault::Passes { at });
     }
     if (size >= 32768) != (bytes + DATAGRAM_EXTRA_BYTES < left) {
-        return Some(FrameFault::More { at });
+        return Err(FrameFault::More { at });
     }
-    None
+    Ok(())
 }
 
 impl Header {
@@ -78,40 +68,32 @@ impl Header {
         let Header {
             code,
             index,
+            address,
             irq,
             ..
         } = self;
         let command = Command::from(code);
-        let address = joined(self.low, self.high);
         let offset = at + DATAGRAM_HEADER_BYTES;
+        let part = Part {
+            index,
+            irq,
+            data,
+            counter,
+            offset,
+        };
         match command.kind() {
             CommandKind::Unlisted => Err(FrameFault::Unlisted { at, code }),
-            CommandKind::Idle => Ok(Token::Idle {
-                address,
-                index,
-                irq,
-                data,
-                counter,
-                offset,
-            }),
+            CommandKind::Idle => Ok(Token::Idle { address, part }),
             CommandKind::Logical => Ok(Token::Logical {
                 command,
                 address,
-                index,
-                irq,
-                data,
-                counter,
-                offset,
+                part,
             }),
             CommandKind::Physical => Ok(Token::Physical {
                 command,
-                adp: self.low,
-                ado: self.high,
-                index,
-                irq,
-                data,
-                counter,
-                offset,
+                adp: (address % 65536) as u16,
+                ado: (address / 65536) as u16,
+                part,
             }),
         }
     }
@@ -132,11 +114,9 @@ pub(crate) fn front<'a>(
     let Some((header, body)) = split_header(area) else {
         return Err(FrameFault::Passes { at });
     };
-    if let Some(fault) = size_fault(header.size, area.len(), left, at) {
-        return Err(fault);
-    }
+    check_size(header.size, area.len(), left, at)?;
     let bytes = usize::from(header.size % 2048);
-    let counter = word(body[bytes], body[bytes + 1]);
-    let token = header.token(&body[0..bytes], counter, at)?;
+    let counter = u16::from_le_bytes([body[bytes], body[bytes + 1]]);
+    let token = header.token(&body[..bytes], counter, at)?;
     Ok((token, bytes + DATAGRAM_EXTRA_BYTES))
 }

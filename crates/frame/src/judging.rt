@@ -3,7 +3,7 @@ ghost use Rattle.std.specs.Prelude.{◌≡◌, ◌<◌, ◌≤◌, length};
 ghost use Rattle.frame.specs.Judging.{headed, judge_area, fault_of};
 
 use crate::faults::FrameFault;
-use crate::headers::{front, word};
+use crate::headers::front;
 use crate::limits::{FRAME_HEADER_BYTES, MAX_FRAME_BYTES, MIN_FRAME_BYTES};
 
 const ETHERCAT: u16 = 0x88a4;
@@ -16,11 +16,11 @@ pub(crate) fn area_bytes(bytes: &[u8]) -> Result<usize, FrameFault>
         return Err(FrameFault::Length { bytes: bytes.len() });
     }
     // the EtherType alone stands highest byte first
-    let found = word(bytes[13], bytes[12]);
+    let found = u16::from_be_bytes([bytes[12], bytes[13]]);
     if found != ETHERCAT {
         return Err(FrameFault::EtherType { found });
     }
-    let header = word(bytes[14], bytes[15]);
+    let header = u16::from_le_bytes([bytes[14], bytes[15]]);
     if header / 2048 != 2 {
         return Err(FrameFault::Header { found: header });
     }

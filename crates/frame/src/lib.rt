@@ -8,6 +8,6 @@ mod judging;
 pub mod limits;
 pub mod reading;
 
-pub use datagrams::{Datagram, Token};
+pub use datagrams::{Datagram, Part, Token};
 pub use faults::FrameFault;
 pub use reading::{Tokens, read_frame};
