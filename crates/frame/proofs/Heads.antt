@@ -1,7 +1,6 @@
 -- What a frame's header says of its datagrams. Assumes nothing.
 use Rattle.std.proofs.Common.{◌≡◌, ℕ, suc, ◌+◌, ◌-◌, ◌/◌, ◌<◌, ◌≤◌, min, Bool, true, false, cond, not, eqb, leb, List, length, take, drop, Some, None, Ok, Err, Result, sym, refl, ap, ◌∙◌, inl, inr, arith, length-drop, length-take}
-use Rattle.std.proofs.lemmas.List.{take_rest, take_all}
-use Rattle.std.proofs.lemmas.Slice.{between_is}
+use Rattle.std.proofs.lemmas.List.{take_rest, take_min, drop-take}
 use Rattle.std.proofs.lemmas.Bool.{cases_lt, leb-true, le-leb, eqb-true, eqb-false, eq-eqb, ne_eqb, not-false, not_from_true, and_parts, and_from, cond-false}
 use Rattle.frame.specs.declared.faults.FrameFault.{FrameFault}
 use Rattle.frame.specs.declared.faults.FrameFault.TheVariants.{Length, EtherType, Header, Empty}
@@ -55,38 +54,23 @@ headed_clear bytes z h =
     ∙ ap Ok h.size
 
 -- the datagrams that are there, cut off at the end of the frame if that comes first
-cut : (bytes : List ℕ) (z end : ℕ) → 16 ≤ length bytes → end ≡ min (length bytes) (16 + z) → take (end - 16) (drop 16 bytes) ≡ take z (drop 16 bytes)
-cut bytes z end long e =
-    let l = length-drop 16 bytes in
-    elim (cases_lt (length bytes) (16 + z)) [
-      | inl lt ↦
-          let k : end - 16 ≡ length bytes - 16 = omega arith in
-          ap (λ n. take n (drop 16 bytes)) k ∙ take_rest bytes 16 ∙ sym (take_all z (drop 16 bytes) (omega arith))
-      | inr le ↦
-          let k : end - 16 ≡ z = omega arith in
-          ap (λ n. take n (drop 16 bytes)) k
-    ]
+area_is : (bytes : List ℕ) (z end : ℕ) → Ok z ≡ headed bytes → end ≡ min (16 + z) (length bytes) → drop 16 (take end bytes) ≡ area_of bytes
+area_is bytes z end h e =
+    ap (λ n. drop 16 (take n bytes)) e ∙ ap (drop 16) (take_min (16 + z) bytes) ∙ drop-take 16 z bytes
+    ∙ ap (λ n. take n (drop 16 bytes)) (sym (headed_sound bytes z (sym h)).size)
 
-pub judged_area : (bytes : List ℕ) (z end : ℕ) → Ok z ≡ headed bytes → end ≡ min (length bytes) (16 + z) → judge_area (take (end - 16) (drop 16 bytes)) z 16 ≡ judged bytes
+pub judged_area : (bytes : List ℕ) (z end : ℕ) → Ok z ≡ headed bytes → end ≡ min (16 + z) (length bytes) → judge_area (take (length (take end bytes) - 16) (drop 16 (take end bytes))) z 16 ≡ judged bytes
 judged_area bytes z end h e =
-    let s = headed_sound bytes z (sym h) in
-    let long = s.low in
-    let size = s.size in
-    ap (λ a. judge_area a z 16) (cut bytes z end (omega arith) e ∙ ap (λ n. take n (drop 16 bytes)) (sym size))
+    ap (λ a. judge_area a z 16) (take_rest (take end bytes) 16 ∙ area_is bytes z end h e)
     ∙ ap (λ r. and_then r (λ n. judge_area (area_of bytes) n 16)) h
 
 -- what an accepted frame's reader will hand out
-pub judged_read : (bytes : List ℕ) (z end : ℕ) → Ok z ≡ headed bytes → end ≡ min (length bytes) (16 + z) → None ≡ fault_of (judge_area (take (end - 16) (drop 16 bytes)) z 16) → Ok (handed_from (take end bytes) 16) ≡ judged bytes
+pub judged_read : (bytes : List ℕ) (z end : ℕ) → Ok z ≡ headed bytes → end ≡ min (16 + z) (length bytes) → None ≡ fault_of (judge_area (take (length (take end bytes) - 16) (drop 16 (take end bytes))) z 16) → Ok (handed_from (take end bytes) 16) ≡ judged bytes
 judged_read bytes z end h e clear =
-    let s = headed_sound bytes z (sym h) in
-    let long = s.low in
-    let l = length-drop 16 bytes in
-    let area = take (end - 16) (drop 16 bytes) in
-    let within : length (take (end - 16) (drop 16 bytes)) ≤ z = simp (length-take, length-drop) (omega arith) in
-    let a = accepted (suc (length (take (end - 16) (drop 16 bytes)))) (take (end - 16) (drop 16 bytes)) z 16 within (omega arith) (sym clear) in
-    ap (λ x. Ok (handed (suc (length x)) x 16)) (sym (between_is bytes 16 end))
-    ∙ sym a.given
-    ∙ judged_area bytes z end h e
+    let rest = take_rest (take end bytes) 16 in
+    let within : length (take (length (take end bytes) - 16) (drop 16 (take end bytes))) ≤ z = simp (length-take, length-drop) (omega arith) in
+    let a = accepted (suc (length (take (length (take end bytes) - 16) (drop 16 (take end bytes))))) (take (length (take end bytes) - 16) (drop 16 (take end bytes))) z 16 within (omega arith) (sym clear) in
+    ap (λ x. Ok (handed (suc (length x)) x 16)) (sym rest) ∙ sym a.given ∙ judged_area bytes z end h e
 
 pub fault_known : {X : Type 0} (e : FrameFault) (r : Result X FrameFault) → Some e ≡ fault_of r → Err e ≡ r
 fault_known e (Ok x) h = let o : ◌≡◌ {A = ℕ} 0 1 = cc in absurd (omega arith)

@@ -3,7 +3,10 @@ use Rattle.std.proofs.Common.{◌≡◌, ℕ, zero, suc, ◌+◌, ◌-◌, ◌<�
 use Rattle.std.proofs.lemmas.Bool.{eq-eqb, ne_eqb, cases_eq}
 use Rattle.std.proofs.lemmas.List.{drop_all, drop-drop}
 use Rattle.frame.specs.declared.faults.FrameFault.{FrameFault}
-use Rattle.frame.specs.Datagrams.{Placed, size, placed_at}
+use Rattle.frame.specs.declared.areas.Area.{Area}
+use Rattle.frame.specs.declared.datagrams.Token.{Token}
+use Rattle.frame.specs.Areas.{SplitsInto}
+use Rattle.frame.specs.Datagrams.{Placed, size, placed_of, placed_at}
 use Rattle.frame.specs.Judging.{front_fault, unless, before, judge, judge_area, fault_of}
 use Rattle.frame.specs.Reading.{if_none, handed, handed_from}
 use Rattle.frame.proofs.Fronts.{fine}
@@ -51,20 +54,21 @@ judge_last f area z p h e =
     ap (λ o. unless o (cond (eqb (size area) z) (Ok (placed_at area p ∷ [])) (before (placed_at area p) (judge f (drop (size area) area) (z - size area) (p + size area))))) h
     ∙ ap (λ t. cond t (Ok (placed_at area p ∷ [])) (before (placed_at area p) (judge f (drop (size area) area) (z - size area) (p + size area)))) (eq-eqb (size area) z e)
 
--- the fault of an area is that of what follows a sound datagram
-pub fault_more : (area : List ℕ) (z p : ℕ) → front_fault area z p ≡ None → (size area ≡ z → ⊥) → fault_of (judge_area (drop (size area) area) (z - size area) (p + size area)) ≡ fault_of (judge_area area z p)
-fault_more area z p h n =
-    let ok = (fine area z p h).sized.fits in
-    let l = length-drop (size area) area in
-    ap fault_of (judge-same (suc (length (drop (size area) area))) (length area) (drop (size area) area) (z - size area) (p + size area) (omega arith) (omega arith))
-    ∙ sym (before_fault (placed_at area p) (judge (length area) (drop (size area) area) (z - size area) (p + size area)))
-    ∙ ap fault_of (sym (judge_more (length area) area z p h n))
+-- the fault of an area with a sound datagram in front is that of the area behind it, if there is one
+pub fault_last : (a b : Area) (t : Token) → None ≡ front_fault a.bytes.now a.left a.at → SplitsInto a t b → b.left ≡ 0 → None ≡ fault_of (judge_area a.bytes.now a.left a.at)
+fault_last a b t h s e = ap fault_of (sym (judge_last (length a.bytes.now) a.bytes.now a.left a.at (sym h) (omega (arith, s.left))))
 
-pub fault_last : (area : List ℕ) (z p : ℕ) → front_fault area z p ≡ None → size area ≡ z → None ≡ fault_of (judge_area area z p)
-fault_last area z p h e = ap fault_of (sym (judge_last (length area) area z p h e))
-
-pub fault_here : (area : List ℕ) (z p : ℕ) (e : FrameFault) → Some e ≡ front_fault area z p → Some e ≡ fault_of (judge_area area z p)
-fault_here area z p e h = ap (λ o. fault_of (unless o (cond (eqb (size area) z) (Ok (placed_at area p ∷ [])) (before (placed_at area p) (judge (length area) (drop (size area) area) (z - size area) (p + size area)))))) h
+pub fault_more : (a b : Area) (t : Token) → None ≡ front_fault a.bytes.now a.left a.at → SplitsInto a t b → (b.left ≡ 0 → ⊥) → fault_of (judge_area b.bytes.now b.left b.at) ≡ fault_of (judge_area a.bytes.now a.left a.at)
+fault_more a b t h s n =
+    let l : b.left ≡ a.left - size a.bytes.now = omega (arith, s.left) in
+    let k = s.shorter in
+    let by = s.bytes in
+    let at = s.at in
+    ap fault_of (
+    (λ i. judge (suc (length b.bytes.now)) (by i) (l i) (at i))
+    ∙ judge-same (suc (length b.bytes.now)) (length a.bytes.now) (drop (size a.bytes.now) a.bytes.now) (a.left - size a.bytes.now) (a.at + size a.bytes.now) (omega (arith, ap length by)) (omega (arith, ap length by)))
+    ∙ sym (before_fault (placed_at a.bytes.now a.at) (judge (length a.bytes.now) (drop (size a.bytes.now) a.bytes.now) (a.left - size a.bytes.now) (a.at + size a.bytes.now)))
+    ∙ ap fault_of (sym (judge_more (length a.bytes.now) a.bytes.now a.left a.at (sym h) (λ e. n (omega (arith, s.left)))))
 
 -- What a reader hands out.
 
@@ -72,23 +76,15 @@ pub handed_none : (f : ℕ) (p : ℕ) → handed f [] p ≡ []
 handed_none zero p = refl
 handed_none (suc f) p = refl
 
-pub handed_end : (bytes : List ℕ) (p : ℕ) → length bytes < p → handed_from bytes p ≡ []
-handed_end bytes p h = ap (λ area. handed (suc (length area)) area p) (drop_all p bytes (omega arith))
-
-pub handed_stop : (bytes : List ℕ) (p : ℕ) (e : FrameFault) → Some e ≡ front_fault (drop p bytes) (length (drop p bytes)) p → handed_from bytes p ≡ []
-handed_stop bytes p e h = ap (λ o. if_none o (placed_at (drop p bytes) p ∷ handed (length (drop p bytes)) (drop (size (drop p bytes)) (drop p bytes)) (p + size (drop p bytes)))) (sym h)
-
-pub handed_more : (bytes : List ℕ) (p n : ℕ) → None ≡ front_fault (drop p bytes) (length (drop p bytes)) p → n ≡ size (drop p bytes) → handed_from bytes p ≡ placed_at (drop p bytes) p ∷ handed_from bytes (p + n)
-handed_more bytes p n h e =
-    let area = drop p bytes in
-    let fits = (fine (drop p bytes) (length (drop p bytes)) p (sym h)).sized.fits in
-    let l = length-drop (size (drop p bytes)) (drop p bytes) in
-    let d = drop-drop (size (drop p bytes)) p bytes in
-    ap (λ o. if_none o (placed_at (drop p bytes) p ∷ handed (length (drop p bytes)) (drop (size (drop p bytes)) (drop p bytes)) (p + size (drop p bytes)))) (sym h)
-    ∙ ap (λ ds. placed_at (drop p bytes) p ∷ ds) (
-    handed-same (length (drop p bytes)) (suc (length (drop (size (drop p bytes)) (drop p bytes)))) (drop (size (drop p bytes)) (drop p bytes)) (p + size (drop p bytes)) (omega arith) (omega arith)
-    ∙ ap (λ a. handed (suc (length a)) a (p + size (drop p bytes))) d
-    ∙ ap (λ k. handed_from bytes (p + k)) (sym e))
+pub handed_more : (bytes : List ℕ) (a b : Area) (t : Token) → a.bytes.now ≡ drop a.at bytes → a.left ≡ length a.bytes.now → None ≡ front_fault a.bytes.now a.left a.at → SplitsInto a t b → handed_from bytes a.at ≡ placed_of t ∷ handed_from bytes b.at
+handed_more bytes a b t e whole h s =
+    let k = s.shorter in
+    let by = s.bytes in
+    let d = by ∙ ap (drop (size a.bytes.now)) e ∙ drop-drop (size a.bytes.now) a.at bytes ∙ ap (λ n. drop n bytes) (sym s.at) in
+    ap (λ x. handed (suc (length x)) x a.at) (sym e)
+    ∙ ap (λ o. if_none o (placed_at a.bytes.now a.at ∷ handed (length a.bytes.now) (drop (size a.bytes.now) a.bytes.now) (a.at + size a.bytes.now))) ((λ i. front_fault a.bytes.now (sym whole i) a.at) ∙ sym h)
+    ∙ (λ i. sym s.front i ∷ handed (length a.bytes.now) (sym by i) (sym s.at i))
+    ∙ ap (λ ds. placed_of t ∷ ds) (handed-same (length a.bytes.now) (suc (length b.bytes.now)) b.bytes.now b.at k (omega arith) ∙ ap (λ x. handed (suc (length x)) x b.at) d)
 
 -- an area with no fault ends where its header says, and its datagrams are handed out
 pub record Accepted (f : ℕ) (area : List ℕ) (z p : ℕ) : Type 0 where

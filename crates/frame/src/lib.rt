@@ -1,6 +1,7 @@
 // Frames as they stand on the wire: judged whole, then read datagram by datagram, in place.
 #![tactic(auto)]
 
+mod areas;
 pub mod datagrams;
 pub mod faults;
 mod headers;
