@@ -29,7 +29,7 @@ impl<'a> Area<'a> {
     {
         let at = self.at;
         let bytes = usize::from(size % 2048);
-        if bytes < 1 || bytes > MAX_DATA_BYTES {
+        if !(1..=MAX_DATA_BYTES).contains(&bytes) {
             return Err(FrameFault::DataLength { at, bytes });
         }
         if size / 2048 % 16 != 0 {

@@ -11,7 +11,7 @@ const ETHERCAT: u16 = 0x88a4;
 pub(crate) fn area_bytes(bytes: &[u8]) -> Result<usize, FrameFault>
     ensures { result ≡ headed bytes.now }
 {
-    if bytes.len() < MIN_FRAME_BYTES || bytes.len() > MAX_FRAME_BYTES {
+    if !(MIN_FRAME_BYTES..=MAX_FRAME_BYTES).contains(&bytes.len()) {
         return Err(FrameFault::Length { bytes: bytes.len() });
     }
     // the EtherType alone stands highest byte first
