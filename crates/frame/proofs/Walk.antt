@@ -3,7 +3,10 @@ use Rattle.std.proofs.Common.{◌≡◌, ℕ, zero, suc, ◌+◌, ◌-◌, ◌<�
 use Rattle.std.proofs.lemmas.Bool.{eq-eqb, ne_eqb, cases_eq}
 use Rattle.std.proofs.lemmas.List.{drop_all, drop-drop}
 use Rattle.frame.specs.declared.faults.FrameFault.{FrameFault}
-use Rattle.frame.specs.Datagrams.{Placed, size, placed_at}
+use Rattle.frame.specs.declared.areas.Area.{Area}
+use Rattle.frame.specs.declared.datagrams.Token.{Token}
+use Rattle.frame.specs.Areas.{SplitsInto}
+use Rattle.frame.specs.Datagrams.{Placed, size, placed_of, placed_at}
 use Rattle.frame.specs.Judging.{front_fault, unless, before, judge, judge_area, fault_of}
 use Rattle.frame.specs.Reading.{if_none, handed, handed_from}
 use Rattle.frame.proofs.Fronts.{fine}
@@ -42,29 +45,22 @@ before_fault d (Err e) = refl
 
 -- what an area with a sound datagram in front comes to
 pub judge_more : (f : ℕ) (area : List ℕ) (z p : ℕ) → front_fault area z p ≡ None → (size area ≡ z → ⊥) → judge (suc f) area z p ≡ before (placed_at area p) (judge f (drop (size area) area) (z - size area) (p + size area))
-judge_more f area z p h n =
-    ap (λ o. unless o (cond (eqb (size area) z) (Ok (placed_at area p ∷ [])) (before (placed_at area p) (judge f (drop (size area) area) (z - size area) (p + size area))))) h
-    ∙ ap (λ t. cond t (Ok (placed_at area p ∷ [])) (before (placed_at area p) (judge f (drop (size area) area) (z - size area) (p + size area)))) (ne_eqb (size area) z n)
+judge_more f area z p h n = rw (h, ne_eqb (size area) z n)
 
 pub judge_last : (f : ℕ) (area : List ℕ) (z p : ℕ) → front_fault area z p ≡ None → size area ≡ z → judge (suc f) area z p ≡ Ok (placed_at area p ∷ [])
-judge_last f area z p h e =
-    ap (λ o. unless o (cond (eqb (size area) z) (Ok (placed_at area p ∷ [])) (before (placed_at area p) (judge f (drop (size area) area) (z - size area) (p + size area))))) h
-    ∙ ap (λ t. cond t (Ok (placed_at area p ∷ [])) (before (placed_at area p) (judge f (drop (size area) area) (z - size area) (p + size area)))) (eq-eqb (size area) z e)
+judge_last f area z p h e = rw (h, eq-eqb (size area) z e)
 
--- the fault of an area is that of what follows a sound datagram
-pub fault_more : (area : List ℕ) (z p : ℕ) → front_fault area z p ≡ None → (size area ≡ z → ⊥) → fault_of (judge_area (drop (size area) area) (z - size area) (p + size area)) ≡ fault_of (judge_area area z p)
-fault_more area z p h n =
-    let ok = (fine area z p h).sized.fits in
-    let l = length-drop (size area) area in
-    ap fault_of (judge-same (suc (length (drop (size area) area))) (length area) (drop (size area) area) (z - size area) (p + size area) (omega arith) (omega arith))
-    ∙ sym (before_fault (placed_at area p) (judge (length area) (drop (size area) area) (z - size area) (p + size area)))
-    ∙ ap fault_of (sym (judge_more (length area) area z p h n))
+-- the fault of an area with a sound datagram in front is that of the area behind it, if there is one
+pub fault_last : (a b : Area) (t : Token) → None ≡ front_fault a.bytes.now a.left a.at → SplitsInto a t b → b.left ≡ 0 → None ≡ fault_of (judge_area a.bytes.now a.left a.at)
+fault_last a b t h s e = ap fault_of (sym (judge_last (length a.bytes.now) a.bytes.now a.left a.at (sym h) (omega (arith, s.left))))
 
-pub fault_last : (area : List ℕ) (z p : ℕ) → front_fault area z p ≡ None → size area ≡ z → None ≡ fault_of (judge_area area z p)
-fault_last area z p h e = ap fault_of (sym (judge_last (length area) area z p h e))
-
-pub fault_here : (area : List ℕ) (z p : ℕ) (e : FrameFault) → Some e ≡ front_fault area z p → Some e ≡ fault_of (judge_area area z p)
-fault_here area z p e h = ap (λ o. fault_of (unless o (cond (eqb (size area) z) (Ok (placed_at area p ∷ [])) (before (placed_at area p) (judge (length area) (drop (size area) area) (z - size area) (p + size area)))))) h
+pub fault_more : (a b : Area) (t : Token) → None ≡ front_fault a.bytes.now a.left a.at → SplitsInto a t b → (b.left ≡ 0 → ⊥) → fault_of (judge_area b.bytes.now b.left b.at) ≡ fault_of (judge_area a.bytes.now a.left a.at)
+fault_more a b t h s n =
+    let l : b.left ≡ a.left - size a.bytes.now = omega (arith, s.left) in
+    let m = judge_more (length a.bytes.now) a.bytes.now a.left a.at (sym h) (λ e. n (omega (arith, s.left))) in
+    let same = judge-same (suc (length b.bytes.now)) (length a.bytes.now) b.bytes.now b.left b.at (omega arith) s.shorter in
+    let f = before_fault (placed_at a.bytes.now a.at) (judge (length a.bytes.now) b.bytes.now b.left b.at) in
+    cc
 
 -- What a reader hands out.
 
@@ -72,23 +68,16 @@ pub handed_none : (f : ℕ) (p : ℕ) → handed f [] p ≡ []
 handed_none zero p = refl
 handed_none (suc f) p = refl
 
-pub handed_end : (bytes : List ℕ) (p : ℕ) → length bytes < p → handed_from bytes p ≡ []
-handed_end bytes p h = ap (λ area. handed (suc (length area)) area p) (drop_all p bytes (omega arith))
+handed_front : (f : ℕ) (area : List ℕ) (p : ℕ) → front_fault area (length area) p ≡ None → handed (suc f) area p ≡ placed_at area p ∷ handed f (drop (size area) area) (p + size area)
+handed_front f area p h = rw h
 
-pub handed_stop : (bytes : List ℕ) (p : ℕ) (e : FrameFault) → Some e ≡ front_fault (drop p bytes) (length (drop p bytes)) p → handed_from bytes p ≡ []
-handed_stop bytes p e h = ap (λ o. if_none o (placed_at (drop p bytes) p ∷ handed (length (drop p bytes)) (drop (size (drop p bytes)) (drop p bytes)) (p + size (drop p bytes)))) (sym h)
-
-pub handed_more : (bytes : List ℕ) (p n : ℕ) → None ≡ front_fault (drop p bytes) (length (drop p bytes)) p → n ≡ size (drop p bytes) → handed_from bytes p ≡ placed_at (drop p bytes) p ∷ handed_from bytes (p + n)
-handed_more bytes p n h e =
-    let area = drop p bytes in
-    let fits = (fine (drop p bytes) (length (drop p bytes)) p (sym h)).sized.fits in
-    let l = length-drop (size (drop p bytes)) (drop p bytes) in
-    let d = drop-drop (size (drop p bytes)) p bytes in
-    ap (λ o. if_none o (placed_at (drop p bytes) p ∷ handed (length (drop p bytes)) (drop (size (drop p bytes)) (drop p bytes)) (p + size (drop p bytes)))) (sym h)
-    ∙ ap (λ ds. placed_at (drop p bytes) p ∷ ds) (
-    handed-same (length (drop p bytes)) (suc (length (drop (size (drop p bytes)) (drop p bytes)))) (drop (size (drop p bytes)) (drop p bytes)) (p + size (drop p bytes)) (omega arith) (omega arith)
-    ∙ ap (λ a. handed (suc (length a)) a (p + size (drop p bytes))) d
-    ∙ ap (λ k. handed_from bytes (p + k)) (sym e))
+pub handed_more : (bytes : List ℕ) (a b : Area) (t : Token) → a.bytes.now ≡ drop a.at bytes → a.left ≡ length a.bytes.now → None ≡ front_fault a.bytes.now a.left a.at → SplitsInto a t b → handed_from bytes a.at ≡ placed_of t ∷ handed_from bytes b.at
+handed_more bytes a b t e whole h s =
+    let k = handed_front (length a.bytes.now) a.bytes.now a.at (sym (h ∙ (λ i. front_fault a.bytes.now (whole i) a.at))) in
+    let d = s.bytes ∙ ap (drop (size a.bytes.now)) e ∙ drop-drop (size a.bytes.now) a.at bytes ∙ ap (λ n. drop n bytes) (sym s.at) in
+    let same = handed-same (length a.bytes.now) (suc (length b.bytes.now)) b.bytes.now b.at s.shorter (omega arith) in
+    let g = s.front in
+    cc
 
 -- an area with no fault ends where its header says, and its datagrams are handed out
 pub record Accepted (f : ℕ) (area : List ℕ) (z p : ℕ) : Type 0 where
@@ -96,7 +85,7 @@ pub record Accepted (f : ℕ) (area : List ℕ) (z p : ℕ) : Type 0 where
   pub given : judge f area z p ≡ Ok (handed f area p)
 
 pub clear_front : (o : Option FrameFault) (r : Result (List Placed) FrameFault) → fault_of (unless o r) ≡ None → o ≡ None
-clear_front (Some e) r h = let z : ◌≡◌ {A = ℕ} 0 1 = cc in absurd (omega arith)
+clear_front (Some e) r h = absurd cc
 clear_front None r h = refl
 
 pub accepted : (f : ℕ) (area : List ℕ) (z p : ℕ) → length area ≤ z → length area < f → fault_of (judge f area z p) ≡ None → Accepted f area z p
@@ -108,14 +97,12 @@ accepted (suc f) area z p within few h =
     elim (cases_eq (size area) z) [
       | inl e ↦
           let whole : length area ≡ z = omega arith in
+          let k = handed_front f area p ((λ i. front_fault area (whole i) p) ∙ clear) in
+          let none = handed_none f (p + size area) in
+          let d = drop_all (size area) area (omega arith) in
           record {
             whole = whole;
-            given = judge_last f area z p clear e
-                ∙ ap Ok (sym (
-                (λ i. if_none (front_fault area (whole i) p) (placed_at area p ∷ handed f (drop (size area) area) (p + size area)))
-                ∙ ap (λ o. if_none o (placed_at area p ∷ handed f (drop (size area) area) (p + size area))) clear
-                ∙ ap (λ a. placed_at area p ∷ handed f a (p + size area)) (drop_all (size area) area (omega arith))
-                ∙ ap (λ ds. placed_at area p ∷ ds) (handed_none f (p + size area))));
+            given = judge_last f area z p clear e ∙ ap Ok (cc);
           }
       | inr n ↦
           let m = judge_more f area z p clear n in
@@ -124,9 +111,6 @@ accepted (suc f) area z p within few h =
           let whole : length area ≡ z = omega (arith, a.whole) in
           record {
             whole = whole;
-            given = m ∙ ap (before (placed_at area p)) a.given
-                ∙ ap Ok (sym (
-                (λ i. if_none (front_fault area (whole i) p) (placed_at area p ∷ handed f (drop (size area) area) (p + size area)))
-                ∙ ap (λ o. if_none o (placed_at area p ∷ handed f (drop (size area) area) (p + size area))) clear));
+            given = m ∙ ap (before (placed_at area p)) a.given ∙ ap Ok (sym (handed_front f area p ((λ i. front_fault area (whole i) p) ∙ clear)));
           }
     ]

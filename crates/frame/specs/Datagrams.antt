@@ -4,6 +4,7 @@ use Rattle.command.specs.declared.Command.{Command}
 use Rattle.command.specs.declared.Command.TheVariants.{Nop}
 use Rattle.command.specs.Codes.{command_of}
 use Rattle.frame.specs.declared.datagrams.Datagram.{Datagram}
+use Rattle.frame.specs.declared.datagrams.Part.{Part}
 use Rattle.frame.specs.declared.datagrams.Token.{Token}
 use Rattle.frame.specs.declared.datagrams.Token.TheVariants.{Physical, Logical, Idle}
 use Rattle.frame.specs.Words.{word, double}
@@ -24,11 +25,24 @@ pub record Placed : Type 0 where
 abbrev pub fields_of : Datagram → Fields
 fields_of d = record { command = d.command; index = d.index; address = d.address; irq = d.irq; bytes = d.«data».now; counter = d.counter }
 
+abbrev pub command_in : Token → Command
+command_in (Physical c adp ado p) = c
+command_in (Logical c a p) = c
+command_in (Idle a p) = Nop
+
 -- a physical address has ADP in its low half and ADO in its high one
+abbrev pub address_in : Token → ℕ
+address_in (Physical c adp ado p) = adp + 65536 * ado
+address_in (Logical c a p) = a
+address_in (Idle a p) = a
+
+abbrev pub part_in : Token → Part
+part_in (Physical c adp ado p) = p
+part_in (Logical c a p) = p
+part_in (Idle a p) = p
+
 abbrev pub placed_of : Token → Placed
-placed_of (Physical c adp ado i q d k o) = record { offset = o; fields = record { command = c; index = i; address = adp + 65536 * ado; irq = q; bytes = d.now; counter = k } }
-placed_of (Logical c a i q d k o) = record { offset = o; fields = record { command = c; index = i; address = a; irq = q; bytes = d.now; counter = k } }
-placed_of (Idle a i q d k o) = record { offset = o; fields = record { command = Nop; index = i; address = a; irq = q; bytes = d.now; counter = k } }
+placed_of t = let p = part_in t in record { offset = p.offset; fields = record { command = command_in t; index = p.index; address = address_in t; irq = p.irq; bytes = p.«data».now; counter = p.counter } }
 
 -- A datagram at the front of an area: command (1 byte), index (1), address (4), 16 bits for the length of
 -- its data and its flags, IRQ (2), data, counter (2).

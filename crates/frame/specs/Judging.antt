@@ -1,5 +1,6 @@
 -- What is wrong with a frame, or which datagrams it has. Assumes nothing.
 use Rattle.std.specs.Prelude.{ℕ, zero, suc, ◌+◌, ◌-◌, ◌*◌, ◌/◌, ◌%◌, Bool, true, false, cond, not, ◌&&◌, List, [], ◌∷◌, length, take, drop, Some, None, Ok, Err, Option, Result, ◌==◌, nat_le, nat_lt, slice_index}
+use Rattle.std.specs.Result.{result_err}
 use Rattle.command.specs.declared.Command.{Command}
 use Rattle.command.specs.declared.CommandKind.{CommandKind}
 use Rattle.command.specs.declared.CommandKind.TheVariants as kind
@@ -54,8 +55,7 @@ front_fault area z p =
     (or_else (size_fault (word area 6) (length area) z p) (command_fault (slice_index area 0) p))
 
 abbrev pub fault_of : {A : Type 0} → Result A FrameFault → Option FrameFault
-fault_of (Ok x) = None
-fault_of (Err e) = Some e
+fault_of = result_err
 
 abbrev pub unless : {A : Type 0} → Option FrameFault → Result A FrameFault → Result A FrameFault
 unless (Some e) r = Err e

@@ -3,4 +3,5 @@ pub mod Faults
 pub mod Datagrams
 pub mod Headers
 pub mod Judging
+pub mod Areas
 pub mod Reading

@@ -1,6 +1,6 @@
 // What a datagram says, and a datagram that stands in a frame.
 ghost use Rattle.std.specs.Prelude.{◌≡◌, ◌+◌, ◌-◌, ◌*◌};
-ghost use Rattle.frame.specs.Datagrams.{fields_of, placed_of};
+ghost use Rattle.frame.specs.Datagrams.{fields_of, part_in, placed_of};
 
 use crate::limits::DATAGRAM_HEADER_BYTES;
 use command::Command;
@@ -17,43 +17,34 @@ pub struct Datagram<'a> {
     pub counter: u16,
 }
 
-// A datagram in a frame, with its data as a part of that frame and the offset at which they begin.
+// What every datagram in a frame has: its data are a part of that frame and begin at the offset.
+#[derive(Clone, Copy)]
+pub struct Part<'a> {
+    pub index: u8,
+    pub irq: u16,
+    pub data: &'a [u8],
+    pub counter: u16,
+    pub offset: usize,
+}
+
+// A datagram in a frame.
 #[derive(Clone, Copy)]
 pub enum Token<'a> {
     Physical {
         command: Command,
         adp: u16,
         ado: u16,
-        index: u8,
-        irq: u16,
-        data: &'a [u8],
-        counter: u16,
-        offset: usize,
+        part: Part<'a>,
     },
     Logical {
         command: Command,
         address: u32,
-        index: u8,
-        irq: u16,
-        data: &'a [u8],
-        counter: u16,
-        offset: usize,
+        part: Part<'a>,
     },
     Idle {
         address: u32,
-        index: u8,
-        irq: u16,
-        data: &'a [u8],
-        counter: u16,
-        offset: usize,
+        part: Part<'a>,
     },
-}
-
-// A 32-bit number of its halves.
-pub(crate) fn joined(low: u16, high: u16) -> u32
-    ensures { result ≡ low + 65536 * high }
-{
-    u32::from(low) + 65536 * u32::from(high)
 }
 
 impl<'a> Token<'a> {
@@ -61,8 +52,7 @@ impl<'a> Token<'a> {
         ensures { result ≡ (placed_of self.now).fields.command }
     {
         match *self {
-            Token::Physical { command, .. } => command,
-            Token::Logical { command, .. } => command,
+            Token::Physical { command, .. } | Token::Logical { command, .. } => command,
             Token::Idle { .. } => Command::Nop,
         }
     }
@@ -71,9 +61,17 @@ impl<'a> Token<'a> {
         ensures { result ≡ (placed_of self.now).fields.address }
     {
         match *self {
-            Token::Physical { adp, ado, .. } => joined(adp, ado),
-            Token::Logical { address, .. } => address,
-            Token::Idle { address, .. } => address,
+            Token::Physical { adp, ado, .. } => u32::from(adp) + 65536 * u32::from(ado),
+            Token::Logical { address, .. } | Token::Idle { address, .. } => address,
+        }
+    }
+
+    fn part(&self) -> Part<'a>
+        ensures { result ≡ part_in self.now }
+    {
+        match *self {
+            Token::Physical { part, .. } | Token::Logical { part, .. } | Token::Idle { part, .. } =>
+                part,
         }
     }
 
@@ -81,35 +79,14 @@ impl<'a> Token<'a> {
     pub fn datagram(&self) -> Datagram<'a>
         ensures { fields_of result ≡ (placed_of self.now).fields }
     {
-        match *self {
-            Token::Physical {
-                index,
-                irq,
-                data,
-                counter,
-                ..
-            }
-            | Token::Logical {
-                index,
-                irq,
-                data,
-                counter,
-                ..
-            }
-            | Token::Idle {
-                index,
-                irq,
-                data,
-                counter,
-                ..
-            } => Datagram {
-                command: self.command(),
-                index,
-                address: self.address(),
-                irq,
-                data,
-                counter,
-            },
+        let part = self.part();
+        Datagram {
+            command: self.command(),
+            index: part.index,
+            address: self.address(),
+            irq: part.irq,
+            data: part.data,
+            counter: part.counter,
         }
     }
 
@@ -117,11 +94,7 @@ impl<'a> Token<'a> {
     pub fn data_offset(&self) -> usize
         ensures { result ≡ (placed_of self.now).offset }
     {
-        match *self {
-            Token::Physical { offset, .. } => offset,
-            Token::Logical { offset, .. } => offset,
-            Token::Idle { offset, .. } => offset,
-        }
+        self.part().offset
     }
 
     // Where the datagram itself begins in the frame.

@@ -32,11 +32,11 @@ impl FrameFault {
             FrameFault::Length { .. } => 1,
             FrameFault::EtherType { .. } => 2,
             FrameFault::Header { .. } => 2,
-            FrameFault::Empty => 3,
-            FrameFault::Passes { .. } => 3,
-            FrameFault::DataLength { .. } => 3,
-            FrameFault::Reserved { .. } => 3,
-            FrameFault::More { .. } => 3,
+            FrameFault::Empty
+            | FrameFault::Passes { .. }
+            | FrameFault::DataLength { .. }
+            | FrameFault::Reserved { .. }
+            | FrameFault::More { .. } => 3,
             FrameFault::Unlisted { .. } => 4,
         }
     }
@@ -50,11 +50,11 @@ impl FrameFault {
             FrameFault::EtherType { .. } => 12,
             FrameFault::Header { .. } => 14,
             FrameFault::Empty => FRAME_HEADER_BYTES,
-            FrameFault::Passes { at } => at,
-            FrameFault::DataLength { at, .. } => at,
-            FrameFault::Reserved { at } => at,
-            FrameFault::More { at } => at,
-            FrameFault::Unlisted { at, .. } => at,
+            FrameFault::Passes { at }
+            | FrameFault::DataLength { at, .. }
+            | FrameFault::Reserved { at }
+            | FrameFault::More { at }
+            | FrameFault::Unlisted { at, .. } => at,
         }
     }
 }

@@ -1,12 +1,12 @@
-// The datagram at the front of an area of datagrams.
-ghost use Rattle.std.specs.Prelude.{◌≡◌, ◌+◌, ◌*◌, ◌^◌, ◌<◌, ◌≤◌, length, IfOk, MatchOption};
-ghost use Rattle.frame.specs.Datagrams.{placed_of, placed_at, size as size_at};
-ghost use Rattle.frame.specs.Judging.{front_fault, fault_of, size_fault, command_fault};
+// The ten header bytes of a datagram.
+ghost use Rattle.std.specs.Prelude.{◌≡◌, ◌+◌, ◌^◌, ◌<◌, length, IfOk, MatchOption};
+ghost use Rattle.frame.specs.Datagrams.{placed_of};
+ghost use Rattle.frame.specs.Judging.{fault_of, command_fault};
 ghost use Rattle.frame.specs.Headers.{SplitOff, fields_with};
 
-use crate::datagrams::{Token, joined};
+use crate::datagrams::{Part, Token};
 use crate::faults::FrameFault;
-use crate::limits::{DATAGRAM_EXTRA_BYTES, DATAGRAM_HEADER_BYTES, MAX_DATA_BYTES};
+use crate::limits::DATAGRAM_HEADER_BYTES;
 use command::{Command, CommandKind};
 
 // What the ten header bytes say.
@@ -14,23 +14,14 @@ use command::{Command, CommandKind};
 pub(crate) struct Header {
     code: u8,
     index: u8,
-    // the halves of the address
-    low: u16,
-    high: u16,
+    address: u32,
     // the length of the data, and the flags
-    size: u16,
+    pub(crate) size: u16,
     irq: u16,
 }
 
-// A 16-bit number of its bytes.
-pub(crate) fn word(low: u8, high: u8) -> u16
-    ensures { result ≡ low + 256 * high }
-{
-    u16::from(low) + 256 * u16::from(high)
-}
-
 // The header, and what follows it.
-fn split_header(area: &[u8]) -> Option<(Header, &[u8])>
+pub(crate) fn split_header(area: &[u8]) -> Option<(Header, &[u8])>
     ensures { MatchOption result (length area.now < 10) (λ h. SplitOff area.now h.0 h.1.now) }
 {
     let [code, index, a0, a1, a2, a3, l0, l1, q0, q1, rest @ ..] = area else {
@@ -39,38 +30,21 @@ fn split_header(area: &[u8]) -> Option<(Header, &[u8])>
     let header = Header {
         code: *code,
         index: *index,
-        low: word(*a0, *a1),
-        high: word(*a2, *a3),
-        size: word(*l0, *l1),
-        irq: word(*q0, *q1),
+        address: u32::from_le_bytes([*a0, *a1, *a2, *a3]),
+        size: u16::from_le_bytes([*l0, *l1]),
+        irq: u16::from_le_bytes([*q0, *q1]),
     };
     Some((header, rest))
 }
 
-// What is wrong with a datagram's length, its flags and its end. So many bytes are there, and so
-// many are left by the frame's header.
-fn size_fault(size: u16, there: usize, left: usize, at: usize) -> Option<FrameFault>
-    ensures { result ≡ size_fault size there left at }
-{
-    let bytes = usize::from(size % 2048);
-    if bytes < 1 || bytes > MAX_DATA_BYTES {
-        return Some(FrameFault::DataLength { at, bytes });
-    }
-    if size / 2048 % 16 != 0 {
-        return Some(FrameFault::Reserved { at });
-    }
-    if there < bytes + DATAGRAM_EXTRA_BYTES {
-        return Some(FrameFault::Passes { at });
-    }
-    if (size >= 32768) != (bytes + DATAGRAM_EXTRA_BYTES < left) {
-        return Some(FrameFault::More { at });
-    }
-    None
-}
-
 impl Header {
     // The datagram with this header, which begins at that offset.
-    fn token<'a>(self, data: &'a [u8], counter: u16, at: usize) -> Result<Token<'a>, FrameFault>
+    pub(crate) fn token<'a>(
+        self,
+        data: &'a [u8],
+        counter: u16,
+        at: usize,
+    ) -> Result<Token<'a>, FrameFault>
         requires { at + 10 < 2 ^ 64 }
         ensures value { fault_of result ≡ command_fault self.code at }
         ensures token { IfOk result (λ t. placed_of t ≡ record { offset = at + 10; fields = fields_with self «data».now counter }) }
@@ -78,65 +52,33 @@ impl Header {
         let Header {
             code,
             index,
+            address,
             irq,
             ..
         } = self;
         let command = Command::from(code);
-        let address = joined(self.low, self.high);
         let offset = at + DATAGRAM_HEADER_BYTES;
+        let part = Part {
+            index,
+            irq,
+            data,
+            counter,
+            offset,
+        };
         match command.kind() {
             CommandKind::Unlisted => Err(FrameFault::Unlisted { at, code }),
-            CommandKind::Idle => Ok(Token::Idle {
-                address,
-                index,
-                irq,
-                data,
-                counter,
-                offset,
-            }),
+            CommandKind::Idle => Ok(Token::Idle { address, part }),
             CommandKind::Logical => Ok(Token::Logical {
                 command,
                 address,
-                index,
-                irq,
-                data,
-                counter,
-                offset,
+                part,
             }),
             CommandKind::Physical => Ok(Token::Physical {
                 command,
-                adp: self.low,
-                ado: self.high,
-                index,
-                irq,
-                data,
-                counter,
-                offset,
+                adp: (address % 65536) as u16,
+                ado: (address / 65536) as u16,
+                part,
             }),
         }
     }
-}
-
-// The datagram at the front of an area and its length, or what is wrong with it.
-pub(crate) fn front<'a>(
-    area: &'a [u8],
-    left: usize,
-    at: usize,
-) -> Result<(Token<'a>, usize), FrameFault>
-    requires { at + length area.now < 2 ^ 64 }
-    ensures value { fault_of result ≡ front_fault area.now left at }
-    ensures token { IfOk result (λ t. placed_of t.0 ≡ placed_at area.now at) }
-    ensures len { IfOk result (λ t. t.1 ≡ size_at area.now) }
-    ensures bound { IfOk result (λ t. (12 < t.1) × (t.1 ≤ length area.now)) }
-{
-    let Some((header, body)) = split_header(area) else {
-        return Err(FrameFault::Passes { at });
-    };
-    if let Some(fault) = size_fault(header.size, area.len(), left, at) {
-        return Err(fault);
-    }
-    let bytes = usize::from(header.size % 2048);
-    let counter = word(body[bytes], body[bytes + 1]);
-    let token = header.token(&body[0..bytes], counter, at)?;
-    Ok((token, bytes + DATAGRAM_EXTRA_BYTES))
 }

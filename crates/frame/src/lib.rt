@@ -1,6 +1,7 @@
 // Frames as they stand on the wire: judged whole, then read datagram by datagram, in place.
 #![tactic(auto)]
 
+mod areas;
 pub mod datagrams;
 pub mod faults;
 mod headers;
@@ -8,6 +9,6 @@ mod judging;
 pub mod limits;
 pub mod reading;
 
-pub use datagrams::{Datagram, Token};
+pub use datagrams::{Datagram, Part, Token};
 pub use faults::FrameFault;
 pub use reading::{Tokens, read_frame};

@@ -1,13 +1,13 @@
 // Reads the datagrams of a frame, in place.
-ghost use Rattle.std.specs.Prelude.{◌≡◌, length};
+ghost use Rattle.std.specs.Prelude.{◌≡◌};
 ghost use Rattle.frame.specs.Judging.{judged};
 ghost use Rattle.frame.specs.Reading.{left, outcome, Stepped};
-ghost use Rattle.std.specs.Iterator.{at_most};
+ghost use Rattle.std.specs.Iterator.{item_count};
 
+use crate::areas::Area;
 use crate::datagrams::Token;
 use crate::faults::FrameFault;
-use crate::headers::front;
-use crate::judging::{area_bytes, check_area};
+use crate::judging::area_bytes;
 use crate::limits::FRAME_HEADER_BYTES;
 
 // The datagrams of a frame, handed out one at a time.
@@ -24,40 +24,38 @@ pub fn read_frame(bytes: &[u8]) -> Result<Tokens<'_>, FrameFault>
     ensures { outcome result ≡ judged bytes.now }
 {
     let promised = area_bytes(bytes)?;
-    let end = bytes.len().min(FRAME_HEADER_BYTES + promised);
-    check_area(&bytes[FRAME_HEADER_BYTES..end], promised)?;
+    let end = (FRAME_HEADER_BYTES + promised).min(bytes.len());
+    let frame = &bytes[..end];
+    let area = Area {
+        bytes: &frame[FRAME_HEADER_BYTES..],
+        left: promised,
+        at: FRAME_HEADER_BYTES,
+    };
+    area.check()?;
     Ok(Tokens {
-        frame: &bytes[0..end],
+        frame,
         at: FRAME_HEADER_BYTES,
     })
-}
-
-impl<'a> Tokens<'a> {
-    // The next datagram, if there is one.
-    fn advance(&mut self) -> Option<Token<'a>>
-        ensures { Stepped self.old result self.new }
-    {
-        let at = self.at;
-        if at > self.frame.len() {
-            return None;
-        }
-        let rest = &self.frame[at..];
-        let Ok((token, size)) = front(rest, rest.len(), at) else {
-            return None;
-        };
-        self.at = at + size;
-        Some(token)
-    }
 }
 
 impl<'a> Iterator for Tokens<'a> {
     type Item = Token<'a>;
 
-    ghost next_gives = { λ s r t. Stepped s r t };
+    ghost next_gives = { Stepped };
 
-    ghost remaining = { λ s. at_most (length (left s)) };
+    ghost remaining = { item_count left };
 
     fn next(&mut self) -> Option<Token<'a>> {
-        self.advance()
+        let bytes = self.frame.get(self.at..)?;
+        let area = Area {
+            bytes,
+            left: bytes.len(),
+            at: self.at,
+        };
+        let Ok((token, rest)) = area.split() else {
+            return None;
+        };
+        self.at = rest.at;
+        Some(token)
     }
 }
