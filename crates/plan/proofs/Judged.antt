@@ -5,7 +5,9 @@ use Rattle.std.proofs.lemmas.Bool.{not-false, or_parts, or_from, leb-false, lt-l
 use Rattle.std.proofs.lemmas.List.{length_push}
 use Rattle.plan.specs.declared.faults.StationField.TheVariants.{Outputs, Inputs}
 use Rattle.plan.specs.declared.stations.PlannedStation.{PlannedStation}
-use Rattle.plan.specs.Lists.{any, first_from, or_else, given}
+use Rattle.std.specs.Bool.{then_some}
+use Rattle.std.specs.List.{list_any, position_from}
+use Rattle.std.specs.Option.{option_or}
 use Rattle.plan.specs.Limits.{max_stations, window_in_range, mailbox_in_range}
 use Rattle.plan.specs.Windows.{image_bits, any_leaves, any_meet, pair_meets}
 use Rattle.plan.specs.Stations.{windows, all_windows, stations_meet}
@@ -20,19 +22,19 @@ use Rattle.plan.proofs.Exclusive.{any_append, pair_append, windows-push, met_win
 pub never : {X : Type 0} {x : X} → Some x ≡ None → ⊥
 never e = let z : ◌≡◌ {A = ℕ} 0 1 = cc in omega arith
 
-pub else_parts : {X : Type 0} (x y : Option X) → or_else x y ≡ None → (x ≡ None) × (y ≡ None)
+pub else_parts : {X : Type 0} (x y : Option X) → option_or x y ≡ None → (x ≡ None) × (y ≡ None)
 else_parts None y e = (refl, e)
 else_parts (Some x) y e = absurd (never e)
 
-else_from : {X : Type 0} (x y : Option X) → x ≡ None → y ≡ None → or_else x y ≡ None
-else_from x y p q = λ i. or_else (p i) (q i)
+else_from : {X : Type 0} (x y : Option X) → x ≡ None → y ≡ None → option_or x y ≡ None
+else_from x y p q = λ i. option_or (p i) (q i)
 
-given_parts : {X : Type 0} (b : Bool) (x : X) → given b x ≡ None → b ≡ false
-given_parts true x e = absurd (never e)
-given_parts false x e = refl
+then_some_parts : {X : Type 0} (b : Bool) (x : X) → then_some b x ≡ None → b ≡ false
+then_some_parts true x e = absurd (never e)
+then_some_parts false x e = refl
 
-given_from : {X : Type 0} (b : Bool) (x : X) → b ≡ false → given b x ≡ None
-given_from b x e = ap (λ t. given t x) e
+then_some_from : {X : Type 0} (b : Bool) (x : X) → b ≡ false → then_some b x ≡ None
+then_some_from b x e = ap (λ t. then_some t x) e
 
 pub mapped_parts : {X Y : Type 0} (f : X → Y) (x : Option X) → option_map f x ≡ None → x ≡ None
 mapped_parts f None e = refl
@@ -42,22 +44,22 @@ first_step : (b r : Bool) (i : ℕ) (o : Option ℕ) → (o ≡ None → r ≡ f
 first_step true r i o h e = absurd (never e)
 first_step false r i o h e = h e
 
-first_parts : {X : Type 0} (p : X → Bool) (i : ℕ) (xs : List X) → first_from i p xs ≡ None → any p xs ≡ false
+first_parts : {X : Type 0} (p : X → Bool) (i : ℕ) (xs : List X) → position_from p i xs ≡ None → list_any p xs ≡ false
 first_parts p i [] e = refl
-first_parts p i (x ∷ xs) e = first_step (p x) (any p xs) i (first_from (i + 1) p xs) (first_parts p (i + 1) xs) e
+first_parts p i (x ∷ xs) e = first_step (p x) (list_any p xs) i (position_from p (i + 1) xs) (first_parts p (i + 1) xs) e
 
-first_none : {X : Type 0} (p : X → Bool) (i : ℕ) (xs : List X) → any p xs ≡ false → first_from i p xs ≡ None
+first_none : {X : Type 0} (p : X → Bool) (i : ℕ) (xs : List X) → list_any p xs ≡ false → position_from p i xs ≡ None
 first_none p i [] e = refl
 first_none p i (x ∷ xs) e =
-    let h = or_parts (p x) (any p xs) e in
+    let h = or_parts (p x) (list_any p xs) e in
     λ j. cond (h.0 j) (Some i) (first_none p (i + 1) xs h.1 j)
 
 -- no field of a station is out of range
 in_range : (s : PlannedStation) → field_out_of_range s ≡ None → (window_in_range s.outputs ≡ true) × (window_in_range s.inputs ≡ true) × (mailbox_in_range s.mailbox ≡ true)
 in_range s e =
-    let p = else_parts (given (not (window_in_range s.outputs)) Outputs) _ e in
-    let q = else_parts (given (not (window_in_range s.inputs)) Inputs) _ p.1 in
-    (not-false _ (given_parts _ _ p.0), not-false _ (given_parts _ _ q.0), not-false _ (given_parts _ _ q.1))
+    let p = else_parts (then_some (not (window_in_range s.outputs)) Outputs) _ e in
+    let q = else_parts (then_some (not (window_in_range s.inputs)) Inputs) _ p.1 in
+    (not-false _ (then_some_parts _ _ p.0), not-false _ (then_some_parts _ _ q.0), not-false _ (then_some_parts _ _ q.1))
 
 -- what the plan keeps, said of its stations
 pub record Kept (bytes : ℕ) (ss : List PlannedStation) : Type 0 where
@@ -85,11 +87,11 @@ module _ (bytes : ℕ) (ss : List PlannedStation) (s : PlannedStation) where
       let c = else_parts _ _ b.1 in
       let d = else_parts _ _ c.1 in
       record {
-        room = leb-false max_stations (length ss) (given_parts _ _ a.0);
+        room = leb-false max_stations (length ss) (then_some_parts _ _ a.0);
         fields = mapped_parts _ _ b.0;
-        inside = given_parts _ _ c.0;
+        inside = then_some_parts _ _ c.0;
         met = sym (met_windows ss s) ∙ first_parts (λ t. stations_meet t s) 0 ss (mapped_parts _ _ d.0);
-        own = given_parts _ _ d.1;
+        own = then_some_parts _ _ d.1;
       }
 
   -- a station that the verdict passes keeps the plan as it has to be
@@ -124,11 +126,11 @@ module _ (bytes : ℕ) (ss : List PlannedStation) (s : PlannedStation) where
       let leaves = or_parts (any_leaves (image_bits bytes) (all_windows ss)) _ (sym (ap (any_leaves (image_bits bytes)) (windows-push ss s) ∙ any_append _ (all_windows ss) (windows s)) ∙ none_leaves bytes ws h.exclusive) in
       let shares = or_parts (pair_meets (all_windows ss)) _ (sym (ap pair_meets (windows-push ss s) ∙ pair_append (all_windows ss) (windows s)) ∙ none_share bytes ws h.exclusive) in
       let own = or_parts (any_meet (all_windows ss) (windows s)) _ shares.1 in
-      else_from _ _ (given_from _ _ (lt-leb max_stations (length ss) h.room))
-      (else_from _ _ (ap (option_map _) (else_from _ _ (given_from _ _ (not_from_true _ h.outputs)) (else_from _ _ (given_from _ _ (not_from_true _ h.inputs)) (given_from _ _ (not_from_true _ h.mailbox)))))
-      (else_from _ _ (given_from _ _ leaves.1)
+      else_from _ _ (then_some_from _ _ (lt-leb max_stations (length ss) h.room))
+      (else_from _ _ (ap (option_map _) (else_from _ _ (then_some_from _ _ (not_from_true _ h.outputs)) (else_from _ _ (then_some_from _ _ (not_from_true _ h.inputs)) (then_some_from _ _ (not_from_true _ h.mailbox)))))
+      (else_from _ _ (then_some_from _ _ leaves.1)
       (else_from _ _ (ap (option_map _) (first_none (λ t. stations_meet t s) 0 ss (met_windows ss s ∙ own.0)))
-      (given_from _ _ own.1))))
+      (then_some_from _ _ own.1))))
 
   -- so does what a push leaves, whether or not there was memory
   pub pushed : (after : List PlannedStation) (b : Bool) → Kept bytes ss → verdict bytes ss s ≡ None → after ≡ cond b (ss ++ s ∷ []) ss → Kept bytes after

@@ -1,4 +1,3 @@
-pub mod Loops
 pub mod Exclusive
 pub mod Judged
 pub mod Owned

@@ -9,7 +9,7 @@ use Rattle.plan.specs.declared.windows.Direction.{Direction}
 use Rattle.plan.specs.declared.windows.MappedWindow.{MappedWindow}
 use Rattle.plan.specs.declared.stations.PlannedStation.{PlannedStation}
 use Rattle.plan.specs.declared.owners.Owner.{Owner}
-use Rattle.plan.specs.Lists.{or_else}
+use Rattle.std.specs.Option.{option_or}
 use Rattle.plan.specs.Windows.{bits_of, no_window, any_meet, pair_meets}
 use Rattle.plan.specs.Stations.{windows, bare, all_windows}
 use Rattle.plan.specs.Meaning.{Owns}
@@ -17,9 +17,9 @@ use Rattle.plan.specs.Owners.{direction_at, owner, owner_from, free_below, OneOw
 use Rattle.plan.proofs.Exclusive.{one, pair_append}
 use Rattle.plan.proofs.Judged.{never, else_parts, mapped_parts}
 
-pub owner_step : (ss : List PlannedStation) (i k : ℕ) (o : Option Direction) → i < length ss → o ≡ direction_at (windows (get_or ss i bare)) k → owner_from i (drop i ss) k ≡ owner_from 0 ss k → or_else (option_map (owner i) o) (owner_from (i + 1) (drop (i + 1) ss) k) ≡ owner_from 0 ss k
+pub owner_step : (ss : List PlannedStation) (i k : ℕ) (o : Option Direction) → i < length ss → o ≡ direction_at (windows (get_or ss i bare)) k → owner_from i (drop i ss) k ≡ owner_from 0 ss k → option_or (option_map (owner i) o) (owner_from (i + 1) (drop (i + 1) ss) k) ≡ owner_from 0 ss k
 owner_step ss i k o h e inv =
-    ap (λ d. or_else (option_map (owner i) d) (owner_from (i + 1) (drop (i + 1) ss) k)) e ∙ sym (at_drop_more (λ ts. owner_from i ts k) ss i bare h) ∙ inv
+    ap (λ d. option_or (option_map (owner i) d) (owner_from (i + 1) (drop (i + 1) ss) k)) e ∙ sym (at_drop_more (λ ts. owner_from i ts k) ss i bare h) ∙ inv
 
 pub free_step : (ss : List PlannedStation) (k : ℕ) (b : Bool) → is_some (owner_from 0 ss k) ≡ b → free_below ss (k + 1) ≡ free_below ss k + cond b 0 1
 free_step ss k b e = ap (free_below ss) (add-one k) ∙ ap (λ t. free_below ss k + cond t 0 1) e
@@ -45,7 +45,7 @@ direction_none [] k e j o = omega arith
 direction_none (w ∷ ws) k e zero o = both_ways _ (past_some _ _ _ e).0 ((has_decides (bits_of w.window) k).1 o)
 direction_none (w ∷ ws) k e (suc j) o = direction_none ws k (past_some (has (bits_of w.window) k) w.direction (direction_at ws k) e).1 j o
 
-here_or_later : (i : ℕ) (d : Option Direction) (rest : Option Owner) (o : Owner) → or_else (option_map (owner i) d) rest ≡ Some o → ((d ≡ Some o.direction) × (o.position.0 ≡ i)) ⊎ (rest ≡ Some o)
+here_or_later : (i : ℕ) (d : Option Direction) (rest : Option Owner) (o : Owner) → option_or (option_map (owner i) d) rest ≡ Some o → ((d ≡ Some o.direction) × (o.position.0 ≡ i)) ⊎ (rest ≡ Some o)
 here_or_later i (Some d) rest o e =
     let same = some_same e in
     inl (ap (λ p. Some p.direction) same, sym (ap (λ p. p.position.0) same))

@@ -1,12 +1,11 @@
 -- Whose bit of the image it is. Assumes nothing.
 use Rattle.std.specs.Prelude.{◌≡◌, ℕ, zero, suc, ◌+◌, cond, List, [], ◌∷◌, get_or, is_some, Some, None, Option, slice_index_or}
-use Rattle.std.specs.Option.{option_map}
+use Rattle.std.specs.Option.{option_map, option_or}
 use Rattle.units.specs.Spans.{has}
 use Rattle.plan.specs.declared.windows.Direction.{Direction}
 use Rattle.plan.specs.declared.windows.MappedWindow.{MappedWindow}
 use Rattle.plan.specs.declared.stations.PlannedStation.{PlannedStation}
 use Rattle.plan.specs.declared.owners.Owner.{Owner}
-use Rattle.plan.specs.Lists.{or_else}
 use Rattle.plan.specs.Windows.{bits_of, no_window}
 use Rattle.plan.specs.Stations.{windows, bare}
 use Rattle.plan.specs.Meaning.{Owns}
@@ -23,7 +22,7 @@ owner i direction = record { position = position i; direction = direction }
 -- the first station, counted from i, that has bit k, and the direction in which it has it
 abbrev pub owner_from : ℕ → List PlannedStation → ℕ → Option Owner
 owner_from i [] k = None
-owner_from i (s ∷ ss) k = or_else (option_map (owner i) (direction_at (windows s) k)) (owner_from (i + 1) ss k)
+owner_from i (s ∷ ss) k = option_or (option_map (owner i) (direction_at (windows s) k)) (owner_from (i + 1) ss k)
 
 -- how many of the first n bits no station has
 abbrev pub free_below : List PlannedStation → ℕ → ℕ
