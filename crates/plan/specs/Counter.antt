@@ -18,6 +18,11 @@ has_inputs s = list_any (λ w. not (is_output w.direction) && nat_lt 0 w.window.
 abbrev pub has_outputs : PlannedStation → Bool
 has_outputs s = list_any (λ w. is_output w.direction && nat_lt 0 w.window.bits) (windows s)
 
+-- some window of that direction has bits
+abbrev pub has_bits : Direction → PlannedStation → Bool
+has_bits Output s = has_outputs s
+has_bits Input s = has_inputs s
+
 -- what a station in SafeOp or Op adds to the working counter of an exchange
 abbrev pub weight : PlannedStation → ℕ
 weight s = cond (has_inputs s) 1 0 + cond (has_outputs s) 2 0

@@ -8,7 +8,7 @@ use Rattle.plan.specs.declared.windows.Window.{Window}
 use Rattle.plan.specs.declared.windows.Direction.TheVariants.{Output}
 use Rattle.plan.specs.declared.windows.MappedWindow.{MappedWindow}
 
--- the bits of a span of them
+-- the bits of the image in a span
 abbrev pub range_of : Span ImageBit → Range
 range_of span = spanned (λ bit. bit.0) span
 

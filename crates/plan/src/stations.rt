@@ -1,6 +1,6 @@
 // A planned station: what it reads and writes of the image, and its mailbox.
 ghost use Rattle.std.specs.Prelude.{◌≡◌};
-ghost use Rattle.plan.specs.Stations.{bare, with_outputs, with_inputs, with_mailbox};
+ghost use Rattle.plan.specs.Stations.{outputs_of, inputs_of, mailbox_of, bare, with_outputs, with_inputs, with_mailbox};
 
 use crate::windows::Window;
 
@@ -52,19 +52,19 @@ impl PlannedStation {
     }
 
     pub fn outputs(&self) -> Window
-        ensures { result ≡ self.now.outputs }
+        ensures { result ≡ outputs_of self.now }
     {
         self.outputs
     }
 
     pub fn inputs(&self) -> Window
-        ensures { result ≡ self.now.inputs }
+        ensures { result ≡ inputs_of self.now }
     {
         self.inputs
     }
 
     pub fn mailbox(&self) -> u32
-        ensures { result ≡ self.now.mailbox }
+        ensures { result ≡ mailbox_of self.now }
     {
         self.mailbox
     }

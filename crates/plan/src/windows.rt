@@ -16,7 +16,7 @@ pub struct Window {
 }
 
 // Seen from the master: a station takes its outputs from the image and puts its inputs into it.
-#[derive(Clone, Copy)]
+#[derive(Clone, Copy, PartialEq, Eq)]
 pub enum Direction {
     Output,
     Input,
