@@ -1,3 +1,4 @@
 pub mod Exclusive
+pub mod Options
 pub mod Judged
 pub mod Owned

@@ -8,6 +8,7 @@ use crate::windows::Window;
 pub struct PlannedStation {
     pub(crate) outputs: Window,
     pub(crate) inputs: Window,
+    // A number and no option: a plan's text may say 0, and the rules judge it.
     pub(crate) mailbox: u32,
 }
 
@@ -23,6 +24,7 @@ impl PlannedStation {
         }
     }
 
+    // A method for each field: a direction as a parameter would only move the two names into a match.
     pub fn with_outputs(self, window: Window) -> PlannedStation
         ensures { result ≡ with_outputs self window }
     {

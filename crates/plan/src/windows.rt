@@ -9,6 +9,8 @@ use crate::limits::MAX_WINDOW_BITS;
 use units::{Countable, ImageBit, Span};
 
 // So many bits from the first on; a window of no bits has first bit 0.
+// Numbers and no option: a plan's text may say no bits from any bit on, and the rules judge it.
+// A type of its own and no span: these rules, and what a plan's text says, are of windows alone.
 #[derive(Clone, Copy)]
 pub struct Window {
     pub first: ImageBit,
