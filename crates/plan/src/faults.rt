@@ -47,10 +47,10 @@ impl PlanFault {
         ensures { result ≡ number self.now }
     {
         match *self {
-            PlanFault::ImageLength => 6,
-            PlanFault::NoStations => 6,
-            PlanFault::TooManyStations { .. } => 6,
-            PlanFault::FieldOutOfRange { .. } => 6,
+            PlanFault::ImageLength
+            | PlanFault::NoStations
+            | PlanFault::TooManyStations { .. }
+            | PlanFault::FieldOutOfRange { .. } => 6,
             PlanFault::WindowConflict { .. } => 7,
         }
     }
@@ -60,10 +60,9 @@ impl PlanFault {
         ensures { result ≡ place self.now }
     {
         match *self {
-            PlanFault::ImageLength => 0,
-            PlanFault::NoStations => 0,
-            PlanFault::TooManyStations { position } => position.0,
-            PlanFault::FieldOutOfRange { position, .. } => position.0,
+            PlanFault::ImageLength | PlanFault::NoStations => 0,
+            PlanFault::TooManyStations { position } | PlanFault::FieldOutOfRange { position, .. } =>
+                position.0,
             PlanFault::WindowConflict { later, .. } => later.0,
         }
     }

@@ -96,9 +96,9 @@ fn read_stations<'a>(
             },
         }
     }
-    match named.plan.fault_if_empty() {
-        Some(fault) => Err(ReadError::Empty { fault }),
-        None => Ok(named),
+    match named.plan.check_not_empty() {
+        Err(fault) => Err(ReadError::Empty { fault }),
+        Ok(()) => Ok(named),
     }
 }
 
