@@ -48,7 +48,8 @@ pub(crate) fn single(
 
 // How many datagrams the frame has, or the number and the place of its refusal.
 pub(crate) fn judged(frame: &[u8]) -> Result<usize, (u16, usize)> {
-    read_frame(frame)
-        .map(|tokens| tokens.count())
-        .map_err(|fault| (fault.number(), fault.place()))
+    match read_frame(frame) {
+        Ok(tokens) => Ok(tokens.count()),
+        Err(fault) => Err((fault.number(), fault.place())),
+    }
 }

@@ -44,7 +44,7 @@ impl<'a> Place<'a> {
     pub(crate) fn at(named: &NamedPlan<'a>, position: usize) -> Place<'a> {
         Place {
             position,
-            name: named.names.get(position).copied().flatten(),
+            name: named.name(position),
         }
     }
 }

@@ -11,8 +11,8 @@ use std::alloc::Global;
 #[derive(Drop)]
 pub struct NamedPlan<'a> {
     pub plan: Plan,
+    // Beside the plan, since a name is no part of what is planned: a plan's stations and rules know of none.
     pub names: Vec<Option<&'a [u8]>>,
-    pub ghost one_for_each: { vec_len names ≡ length (stations_of plan) },
 }
 
 impl<'a> NamedPlan<'a> {

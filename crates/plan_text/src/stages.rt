@@ -16,7 +16,7 @@ pub struct Fields {
     pub mailbox: Option<u32>,
 }
 
-// Where in a line the next word stands.
+// Where in a line the next word stands. Cases, and no closures for the steps: the grammar's definition goes by them.
 #[derive(Clone, Copy)]
 pub enum Stage {
     AtLineKind,
