@@ -1,5 +1,5 @@
 -- Where a bit's owner is found, and that it is the only one. Assumes nothing.
-use Rattle.std.proofs.Common.{◌≡◌, ℕ, zero, suc, ◌+◌, ◌<◌, ◌≤◌, Bool, false, cond, ◌⊎◌, List, [], ◌∷◌, ◌++◌, length, get_or, drop, is_some, Some, None, Option, sym, refl, ap, ◌∙◌, inl, inr, ⊎_elim, arith}
+use Rattle.std.proofs.Common.{◌≡◌, ℕ, zero, suc, ◌+◌, ◌<◌, ◌≤◌, Bool, false, cond, ◌⊎◌, List, [], ◌∷◌, ◌++◌, length, get_or, drop, is_some, Some, None, Option, MatchOption, sym, refl, ap, ◌∙◌, inl, inr, ⊎_elim, arith}
 use Rattle.std.specs.List.{find}
 use Rattle.std.specs.Option.{option_map}
 use Rattle.std.proofs.lemmas.Option.{same_Some}
@@ -26,12 +26,12 @@ skipped i [] k (suc j) l h = absurd (omega arith)
 skipped i (s ∷ ss) k (suc j) l h =
     ap (λ d. option_or (option_map (owner i) d) (owner_from (i + 1) ss k)) (h 0 (omega arith)) ∙ skipped (i + 1) ss k j (omega arith) (λ m lt. h (suc m) (omega arith)) ∙ ap (λ n. owner_from n (drop j ss) k) (omega arith)
 
--- no station has bit k, or the first that has it is the owner
-pub first_owner : (ss : List PlannedStation) (k : ℕ) (r : Option Owner) → (r ≡ None → (m : ℕ) → m < length ss → direction_at (windows (get_or ss m bare)) k ≡ None) → ((o : Owner) → r ≡ Some o → (i : ℕ) × (i < length ss) × (Some o ≡ option_map (owner i) (direction_at (windows (get_or ss i bare)) k)) × ((m : ℕ) → m < i → direction_at (windows (get_or ss m bare)) k ≡ None)) → r ≡ owner_from 0 ss k
-first_owner ss k None none some =
-    sym (skipped 0 ss k (length ss) (omega arith) (none refl) ∙ at_drop_all (λ ts. owner_from (0 + length ss) ts k) ss (length ss) (omega arith))
-first_owner ss k (Some o) none some =
-    let f = some o refl in
+-- what a search through the stations answers, where N says that it found none, and S that it found that owner
+pub first_owner : (ss : List PlannedStation) (k : ℕ) (r : Option Owner) {N : Type 0} {S : Owner → Type 0} → MatchOption r N S → (N → (m : ℕ) → m < length ss → direction_at (windows (get_or ss m bare)) k ≡ None) → ((o : Owner) → S o → (i : ℕ) × (i < length ss) × (Some o ≡ option_map (owner i) (direction_at (windows (get_or ss i bare)) k)) × ((m : ℕ) → m < i → direction_at (windows (get_or ss m bare)) k ≡ None)) → r ≡ owner_from 0 ss k
+first_owner ss k None n none some =
+    sym (skipped 0 ss k (length ss) (omega arith) (none n) ∙ at_drop_all (λ ts. owner_from (0 + length ss) ts k) ss (length ss) (omega arith))
+first_owner ss k (Some o) h none some =
+    let f = some o h in
     let rest = owner_from (f.0 + 1) (drop (f.0 + 1) ss) k in
     ap (λ d. option_or d rest) f.2 ∙ sym (skipped 0 ss k f.0 (omega arith) f.3 ∙ ap (λ n. owner_from n (drop f.0 ss) k) (omega arith) ∙ at_drop_more (λ ts. owner_from f.0 ts k) ss f.0 bare f.1)
 

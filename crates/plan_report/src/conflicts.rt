@@ -26,11 +26,11 @@ fn first_pair(windows: &[MappedWindow]) -> Option<(MappedWindow, MappedWindow)> 
 
 // The bits that two windows share.
 #[derive(Clone, Copy)]
-struct Shared<'a>(&'a Window, &'a Window);
+struct Shared(Window, Window);
 
-impl fmt::Display for Shared<'_> {
+impl fmt::Display for Shared {
     fn fmt<W: fmt::Write>(&self, f: &mut fmt::Formatter<W>) -> fmt::Result {
-        let common = self.0.common(self.1);
+        let common = self.0.common(&self.1);
         let bits = Bits(common);
         if common.bits == 1 {
             return write!(f, "share bit {bits}");
@@ -59,7 +59,7 @@ impl fmt::Display for Meeting<'_, '_> {
         };
         let first = Mapped(theirs);
         let second = Mapped(mine);
-        let shared = Shared(&mine.window, &theirs.window);
+        let shared = Shared(mine.window, theirs.window);
         write!(f, "{first} of {earlier} and {second} of {later} {shared}")
     }
 }
@@ -89,7 +89,7 @@ impl fmt::Display for Own<'_, '_> {
         };
         let first = Mapped(one);
         let second = Mapped(other);
-        let shared = Shared(&one.window, &other.window);
+        let shared = Shared(one.window, other.window);
         write!(f, "{first} and {second} of {place} {shared}")
     }
 }
