@@ -71,7 +71,7 @@ fn read_stations<'a>(
         names: Vec::new(heap),
     };
     let mut number = last;
-    while let Some(line) = lines.next_line() {
+    while let Some(line) = lines.next() {
         number += 1;
         match read_line(line) {
             Err(expected) => return Err(ReadError::Unread {
@@ -108,7 +108,7 @@ pub fn read_plan(heap: Global, text: &[u8]) -> Result<NamedPlan<'_>, ReadError<'
 {
     let mut lines = Lines::of(text);
     let mut number = 0;
-    while let Some(line) = lines.next_line() {
+    while let Some(line) = lines.next() {
         number += 1;
         match read_line(line) {
             Err(expected) => return Err(ReadError::Unread {
