@@ -4,16 +4,6 @@ use Rattle.std.proofs.lemmas.List.{at_drop_more, at_drop_all}
 use Rattle.std.proofs.lemmas.Bool.{cases_Bool, leb-true, leb-false, le-leb, lt-leb}
 use Rattle.text.specs.Decimal.{digit, digits, value_after, fitting, number_after, decimal_of, with_digit}
 
-at_some : (b : Bool) (o : Option ℕ) (v : ℕ) → cond b o None ≡ Some v → (b ≡ true) × (o ≡ Some v)
-at_some true o v h = (refl, h)
-at_some false o v h = let z : ◌≡◌ {A = ℕ} 0 1 = cc in absurd (omega arith)
-
-fits : (n v : ℕ) → fitting n ≡ Some v → (n ≡ v) × (v ≤ 4294967295)
-fits n v h =
-    let p = at_some (leb n 4294967295) (Some n) v h in
-    let is : n ≡ v = let e : ◌≡◌ {A = Option ℕ} (Some n) (Some v) = p.1 in cc in
-    (is, omega (arith, leb-true n 4294967295 p.0))
-
 fitting_small : (n : ℕ) → n ≤ 4294967295 → Some n ≡ fitting n
 fitting_small n h = sym (ap (λ b. cond b (Some n) None) (le-leb n 4294967295 h))
 
@@ -30,13 +20,6 @@ none_large n h =
 value_ge : (n : ℕ) (bs : List ℕ) → n ≤ value_after n bs
 value_ge n [] = omega arith
 value_ge n (b ∷ bs) = omega (arith, value_ge (n * 10 + (b - 48)) bs)
-
--- a digit that fits
-number_more : (n b : ℕ) (bs : List ℕ) (v : ℕ) → with_digit n b ≡ Some v → (v ≤ 4294967295) × (number_after n (b ∷ bs) ≡ number_after v bs)
-number_more n b bs v h =
-    let p = at_some (digit b) (fitting (n * 10 + (b - 48))) v h in
-    let q = fits (n * 10 + (b - 48)) v p.1 in
-    (q.1, ap (λ t. cond (t && digits bs) (fitting (value_after (n * 10 + (b - 48)) bs)) None) p.0 ∙ ap (λ m. number_after m bs) q.0)
 
 same_none : (b : Bool) → cond {A = Option ℕ} b None None ≡ None
 same_none true = refl
@@ -67,12 +50,6 @@ abbrev pub Sofar : List ℕ → ℕ → ℕ → Type 0
 Sofar word i n = (n ≤ 4294967295) × (number_after n (drop i word) ≡ number_after 0 word)
 
 module _ (word : List ℕ) (i n : ℕ) (so : Sofar word i n) where
-  pub sofar_more : (v : ℕ) → i < length word → with_digit n (get_or word i 0) ≡ Some v → Sofar word (i + 1) v
-  sofar_more v h e =
-      let step = at_drop_more (number_after n) word i 0 h in
-      let more = number_more n (get_or word i 0) (drop (i + 1) word) v e in
-      (more.0, sym (step ∙ more.1) ∙ so.1)
-
   pub sofar_none : i < length word → with_digit n (get_or word i 0) ≡ None → None ≡ decimal_of word
   sofar_none h e =
       let step = at_drop_more (number_after n) word i 0 h in
