@@ -18,6 +18,7 @@ fn check_list(datagrams: &[Datagram<'_>]) -> Result<(), FrameFault>
     if datagrams.is_empty() {
         return Err(FrameFault::Empty);
     }
+    // A `for`: the offset goes on by each datagram's own length.
     let mut at = FRAME_HEADER_BYTES;
     for datagram in datagrams {
         check_datagram(at, datagram)?;

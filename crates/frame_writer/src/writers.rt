@@ -25,6 +25,7 @@ impl Laid {
 
 // A frame under way over a lent buffer. Each datagram in it says that another follows, until the
 // frame is finished.
+// No model: it has none of its datagrams, which are the caller's, so its contracts go by the relation `holds`.
 #[derive(Drop)]
 pub struct Writer<'a> {
     pub(crate) buffer: &'a mut [u8],

@@ -42,6 +42,7 @@ impl Picture<'_> {
     }
 }
 
+// Bytes that no window has, as a part of the picture.
 fn free_rows<W: fmt::Write>(first: u32, end: u32, f: &mut fmt::Formatter<W>) -> fmt::Result {
     if first >= end {
         return Ok(());
