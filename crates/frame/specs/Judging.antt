@@ -1,5 +1,6 @@
 -- What is wrong with a frame, or which datagrams it has. Assumes nothing.
 use Rattle.std.specs.Prelude.{ℕ, zero, suc, ◌+◌, ◌-◌, ◌*◌, ◌/◌, ◌%◌, Bool, true, false, cond, not, ◌&&◌, List, [], ◌∷◌, length, take, drop, Some, None, Ok, Err, Option, Result, ◌==◌, nat_le, nat_lt, slice_index}
+use Rattle.std.specs.Option.{option_or}
 use Rattle.std.specs.Result.{result_err}
 use Rattle.command.specs.declared.Command.{Command}
 use Rattle.command.specs.declared.CommandKind.{CommandKind}
@@ -45,8 +46,7 @@ abbrev pub command_fault : ℕ → ℕ → Option FrameFault
 command_fault code p = cond (known (command_of code)) None (Some (Unlisted p code))
 
 abbrev pub or_else : Option FrameFault → Option FrameFault → Option FrameFault
-or_else (Some e) other = Some e
-or_else None other = other
+or_else = option_or
 
 -- what is wrong with the datagram at the front of an area: rule 3, then rule 4
 abbrev pub front_fault : List ℕ → ℕ → ℕ → Option FrameFault
