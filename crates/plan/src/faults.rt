@@ -41,6 +41,7 @@ pub enum PlanError {
     Memory,
 }
 
+// A number and a place as other faults have them, and no trait: nothing is generic over faults.
 impl PlanFault {
     // The rule that is broken.
     pub fn number(&self) -> u16

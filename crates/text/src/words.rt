@@ -12,7 +12,7 @@ pub fn is_blank(b: u8) -> bool
     matches!(b, b' ' | b'\t' | b'\r')
 }
 
-// The words of a line, from the first on.
+// The words of a line, from the first on. Not one with `Lines`: a word is sought behind blanks, and is never empty.
 #[derive(Drop)]
 pub struct Words<'a> {
     rest: &'a [u8],
