@@ -4,6 +4,7 @@
 use frame_report::{Dissection, report};
 use std::io::Read;
 
+// As in rewrite: a function for both could promise nothing, since no contract says what is read or printed.
 fn main(rt: HostRuntime) -> anyhow::Result<()> {
     let heap = rt.alloc();
     let mut text = Vec::new(heap);

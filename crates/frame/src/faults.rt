@@ -23,6 +23,7 @@ pub enum FrameFault {
     Unlisted { at: usize, code: u8 },
 }
 
+// A number and a place as other faults have them, and no trait: nothing is generic over faults.
 impl FrameFault {
     // The rule that is broken.
     pub fn number(&self) -> u16

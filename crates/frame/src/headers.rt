@@ -73,6 +73,7 @@ impl Header {
                 address,
                 part,
             }),
+            // Halves by arithmetic, here and where they are joined: the library has no method for them.
             CommandKind::Physical => Ok(Token::Physical {
                 command,
                 adp: (address % 65536) as u16,

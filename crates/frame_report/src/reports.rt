@@ -46,11 +46,8 @@ pub fn report<R: FrameReport>(heap: Global, way: &R, text: &[u8]) -> Result<Stri
     ensures { IfOk result (λ out. string_bytes out ≡ report_of (R.FrameReport.told way.now) text.now) }
 {
     let mut out = String::new(heap);
-    let mut lines = Lines::of(text);
-    let mut number = 0;
-    while let Some(line) = lines.next_line() {
-        number += 1;
-        report_line(heap, way, &mut out, number, uncommented(line))?;
+    for (i, line) in Lines::of(text).enumerate() {
+        report_line(heap, way, &mut out, i + 1, uncommented(line))?;
     }
     Ok(out)
 }

@@ -4,10 +4,7 @@ use std::alloc::{AllocError, Global};
 
 // So many bytes of zero behind what is there.
 pub(crate) fn zeros(bytes: &mut Vec<u8>, count: usize) -> Result<(), AllocError> {
-    for _ in 0..count {
-        bytes.push(0)?;
-    }
-    Ok(())
+    bytes.resize(bytes.len().saturating_add(count), 0)
 }
 
 // The first 16 bytes of a frame, with these in the EtherCAT header.
@@ -25,8 +22,8 @@ pub(crate) fn frame(
     datagrams: &[u8],
     length: usize,
 ) -> Result<Vec<u8>, AllocError> {
-    let high = 16 + (size / 256 % 8) as u8;
-    let mut bytes = head(heap, (size % 256) as u8, high)?;
+    let [low, high] = (0x1000 + size % 2048).to_le_bytes();
+    let mut bytes = head(heap, low, high)?;
     bytes.extend_from_slice(datagrams)?;
     let missing = length.saturating_sub(bytes.len());
     zeros(&mut bytes, missing)?;
@@ -43,9 +40,8 @@ pub(crate) fn single(
 ) -> Result<Vec<u8>, AllocError> {
     let data = size % 2048;
     let mut datagram = Vec::new(heap);
-    let flags = [(size % 256) as u8, (size / 256) as u8];
     datagram.extend_from_slice(&[command, 0, 0, 0, 0, 0])?;
-    datagram.extend_from_slice(&flags)?;
+    datagram.extend_from_slice(&size.to_le_bytes())?;
     zeros(&mut datagram, usize::from(data) + 4)?;
     frame(heap, data + 12, datagram.as_slice(), length)
 }
@@ -53,13 +49,7 @@ pub(crate) fn single(
 // How many datagrams the frame has, or the number and the place of its refusal.
 pub(crate) fn judged(frame: &[u8]) -> Result<usize, (u16, usize)> {
     match read_frame(frame) {
-        Ok(tokens) => {
-            let mut count = 0usize;
-            for _ in tokens {
-                count = count.saturating_add(1);
-            }
-            Ok(count)
-        }
+        Ok(tokens) => Ok(tokens.count()),
         Err(fault) => Err((fault.number(), fault.place())),
     }
 }

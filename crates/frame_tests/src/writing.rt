@@ -1,7 +1,7 @@
 // What the writer writes, and what it refuses.
 use command::Command;
 use frame::Datagram;
-use frame_writer::{Writer, rewrite_frame, write_frame};
+use frame_writer::{WriteFault, Writer, rewrite_frame, write_frame};
 
 const LONG: [u8; 1487] = [7; 1487];
 
@@ -14,18 +14,9 @@ const AL_CONTROL: Datagram<'static> = Datagram {
     counter: 0x0102,
 };
 
-fn answer(r: Result<usize, frame_writer::WriteFault>) -> Result<usize, (u16, usize)> {
-    match r {
-        Ok(length) => Ok(length),
-        Err(fault) => Err((fault.number(), fault.place())),
-    }
-}
-
-fn added(r: Result<(), frame_writer::WriteFault>) -> Result<(), (u16, usize)> {
-    match r {
-        Ok(()) => Ok(()),
-        Err(fault) => Err((fault.number(), fault.place())),
-    }
+// A refusal by its number and its place.
+fn answer<T>(r: Result<T, WriteFault>) -> Result<T, (u16, usize)> {
+    r.map_err(|fault| (fault.number(), fault.place()))
 }
 
 #[test]
@@ -98,11 +89,11 @@ fn a_refused_addition_leaves_the_frame(rt: HostRuntime) {
     };
     let mut buffer = [0; 1514];
     let mut writer = Writer::over(&mut buffer);
-    assert_eq!(rt; added(writer.add(&none)), Err((3, 16)));
-    assert_eq!(rt; added(writer.add(&AL_CONTROL)), Ok(()));
-    assert_eq!(rt; added(writer.add(&long)), Err((3, 30)));
-    assert_eq!(rt; added(writer.add(&unlisted)), Err((4, 30)));
-    assert_eq!(rt; added(writer.add(&AL_CONTROL)), Ok(()));
+    assert_eq!(rt; answer(writer.add(&none)), Err((3, 16)));
+    assert_eq!(rt; answer(writer.add(&AL_CONTROL)), Ok(()));
+    assert_eq!(rt; answer(writer.add(&long)), Err((3, 30)));
+    assert_eq!(rt; answer(writer.add(&unlisted)), Err((4, 30)));
+    assert_eq!(rt; answer(writer.add(&AL_CONTROL)), Ok(()));
     assert_eq!(rt; answer(writer.finish()), Ok(60));
     assert_eq!(rt; buffer[14], 28);
     assert_eq!(rt;

@@ -23,6 +23,7 @@ impl<T: Drop> From<NoRoom<T>> for HexError {
     }
 }
 
+// Written out: a derive would not say which bytes are written.
 impl fmt::Display for HexError {
     ghost output = { λ e. Some (hex_words e) };
 
@@ -40,12 +41,7 @@ fn digit_value(b: u8) -> Option<u8>
     ensures value { result ≡ digit_value b }
     ensures bound { IfSome result (λ v. v < 16) }
 {
-    match b {
-        b'0'..=b'9' => Some(b - b'0'),
-        b'a'..=b'f' => Some(b - b'a' + 10),
-        b'A'..=b'F' => Some(b - b'A' + 10),
-        _ => None,
-    }
+    char::from(b).to_digit(16).map(|value| value as u8)
 }
 
 // The bytes that a line has in hex. Blanks may stand anywhere in it.

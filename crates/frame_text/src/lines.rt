@@ -3,7 +3,7 @@ ghost use Rattle.std.specs.Prelude.{Some};
 ghost use Rattle.frame.specs.Datagrams.{placed_of};
 ghost use Rattle.frame_text.specs.Lines.{address_of, heading_for, line_of};
 
-use crate::digits::{Hex2, Hex4, Hex8, HexBytes};
+use crate::digits::HexBytes;
 use command::{Command, CommandKind};
 use frame::Token;
 use std::fmt;
@@ -19,12 +19,12 @@ impl fmt::Display for Address {
     ghost output = { λ a. Some (address_of a.command a.number) };
 
     fn fmt<W: fmt::Write>(&self, f: &mut fmt::Formatter<W>) -> fmt::Result {
-        let adp = Hex4((self.number % 65536) as u16);
-        let ado = Hex4((self.number / 65536) as u16);
-        let logical = Hex8(self.number);
+        let number = self.number;
+        let adp = number % 65536;
+        let ado = number / 65536;
         match self.command.kind() {
-            CommandKind::Logical => write!(f, "{logical}"),
-            _ => write!(f, "{adp}:{ado}"),
+            CommandKind::Logical => write!(f, "{number:08x}"),
+            _ => write!(f, "{adp:04x}:{ado:04x}"),
         }
     }
 }
@@ -63,13 +63,13 @@ impl fmt::Display for DatagramLine<'_> {
                 number: datagram.address,
             },
         };
-        let index = Hex2(datagram.index);
-        let irq = Hex4(datagram.irq);
+        let index = datagram.index;
+        let irq = datagram.irq;
         let data = HexBytes(datagram.data);
         let counter = datagram.counter;
         write!(
             f,
-            "{heading} index {index} irq {irq} data {data} counter {counter}"
+            "{heading} index {index:02x} irq {irq:04x} data {data} counter {counter}"
         )
     }
 }

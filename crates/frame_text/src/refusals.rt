@@ -2,7 +2,6 @@
 ghost use Rattle.std.specs.Prelude.{Some};
 ghost use Rattle.frame_text.specs.Refusals.{words_of, refusal_of};
 
-use crate::digits::Hex4;
 use frame::FrameFault;
 use frame::limits::{MAX_DATA_BYTES, MAX_FRAME_BYTES, MIN_FRAME_BYTES};
 use std::fmt;
@@ -21,16 +20,12 @@ impl fmt::Display for FaultWords {
                 "the frame has {bytes} bytes; it may have {MIN_FRAME_BYTES} to {MAX_FRAME_BYTES}"
             ),
             FrameFault::EtherType { found } => {
-                let found = Hex4(found);
-                write!(f, "the EtherType is {found}, not 88a4")
+                write!(f, "the EtherType is {found:04x}, not 88a4")
             }
-            FrameFault::Header { found } => {
-                let found = Hex4(found);
-                write!(
-                    f,
-                    "the EtherCAT header is {found}; bit 11 has to be 0 and the type 1"
-                )
-            }
+            FrameFault::Header { found } => write!(
+                f,
+                "the EtherCAT header is {found:04x}; bit 11 has to be 0 and the type 1"
+            ),
             FrameFault::Empty => f.write_str("the frame has no datagram"),
             FrameFault::Passes { .. } => f.write_str(
                 "the datagram passes the end of the datagrams or of the frame",

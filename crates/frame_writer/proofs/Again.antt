@@ -1,124 +1,67 @@
 -- What is read is written again. Assumes nothing.
-use Rattle.std.proofs.Common.{◌≡◌, ℕ, zero, suc, ◌+◌, ◌-◌, ◌*◌, ◌/◌, ◌%◌, ◌<◌, ◌≤◌, Bool, true, false, eqb, List, [], ◌∷◌, ◌++◌, length, get_or, take, drop, None, Ok, Err, Result, sym, refl, ap, ◌∙◌, subst, inl, inr, append_assoc, append-nil, arith, length-drop, length-take, MatchResult}
-use Rattle.std.proofs.lemmas.List.{take-append-drop, drop-drop, drop_more, drop_all, length-take-le, get_or-drop, get_or-take, get_or_past}
-use Rattle.std.proofs.lemmas.Bool.{cases_Bool, cases_eq, cases_lt, cond-true, cond-false, eqb-true, leb-true, leb-false, lt-ltb, le-ltb}
+use Rattle.std.proofs.Common.{◌≡◌, ℕ, zero, suc, ◌+◌, ◌-◌, ◌*◌, ◌/◌, ◌%◌, ◌<◌, ◌≤◌, List, [], ◌∷◌, ◌++◌, length, get_or, take, drop, None, Ok, Err, Result, sym, refl, ap, ◌∙◌, subst, inl, inr, append-nil, arith, length-drop, length-take, MatchResult}
+use Rattle.std.proofs.lemmas.List.{drop-drop, drop_all, length-take-le, get_or-drop}
+use Rattle.std.proofs.lemmas.Bool.Decides.{nat_tests}
+use Rattle.std.proofs.lemmas.Grind.{common_steps}
+use Rattle.std.proofs.lemmas.Bool.{cases_eq}
 use Rattle.command.specs.declared.Command.{Command}
 use Rattle.command.specs.Codes.{code_of, with_code, command_of, listed}
 use Rattle.frame.specs.Words.{word, double}
-use Rattle.frame.specs.Datagrams.{Fields, Placed, data_bits, reserved_bits, more_bit, data_size, size, fields_at, placed_at}
+use Rattle.frame.specs.Datagrams.{Fields, Placed, data_bits, reserved_bits, data_size, size, fields_at, placed_at}
 use Rattle.frame.specs.declared.faults.FrameFault.{FrameFault}
-use Rattle.frame.specs.Judging.{same, or_else, front_fault, judge, judge_area, fault_of, area_of, area_size, headed, and_then, judged}
+use Rattle.frame.specs.Judging.{or_else, front_fault, judge, judge_area, fault_of, area_of, area_size, headed, and_then, judged}
 use Rattle.frame.specs.Reading.{if_none, handed}
 use Rattle.frame.proofs.Fronts.{Fine, fine}
 use Rattle.frame.proofs.Heads.{headed_sound}
 use Rattle.frame.proofs.Walk.{clear_front, handed_none, before_fault, judge_more, accepted}
 use Rattle.std.proofs.lemmas.Result.{MatchResult-weaker}
 use Rattle.frame_writer.specs.declared.faults.WriteFault.{WriteFault}
-use Rattle.frame_writer.specs.Adding.{add_fault, list_fault, write_fault, write_answer, rewrite_answer, unless, in_buffer, frame_length}
+use Rattle.frame_writer.specs.Adding.{list_fault, write_fault, write_answer, rewrite_answer, unless, in_buffer, frame_length}
 use Rattle.frame_writer.specs.Frames.{Written, Rewritten}
 use Rattle.frame_writer.specs.Encoding.{size_in, trailer, encoded, area_for, total, fields_in}
 use Rattle.frame_writer.specs.Writers.{Valid, AllValid}
-use Rattle.frame_writer.proofs.Lists.{add_fits, write_fits}
+use Rattle.frame_writer.proofs.Lists.{add_clear, write_fits}
 use Rattle.frame_writer.proofs.Round.{length_area, frame_size, frame_area}
 
 abbrev pub Bytes : List ℕ → Type 0
 Bytes xs = (k : ℕ) → get_or xs k 0 < 256
 
 pub bytes_drop : (n : ℕ) (xs : List ℕ) → Bytes xs → Bytes (drop n xs)
-bytes_drop n xs h k = subst (λ x. x < 256) (sym (get_or-drop n xs k 0)) (h (n + k))
+bytes_drop n xs h k = rw get_or-drop (h (n + k))
 
 pub bytes_take : (n : ℕ) (xs : List ℕ) → Bytes xs → Bytes (take n xs)
-bytes_take n xs h k =
-    elim (cases_lt k n) [
-      | inl lt ↦ subst (λ x. x < 256) (sym (get_or-take n xs k 0 lt)) (h k)
-      | inr le ↦ subst (λ x. x < 256) (sym (get_or_past (take n xs) k 0 (simp length-take (omega arith)))) (omega arith)
-    ]
-
-below : (a b : ℕ) → a ≤ b → (a ≡ b → ⊥) → a < b
-below a b h n = elim (cases_lt a b) [ inl lt ↦ lt | inr le ↦ absurd (n (omega arith)) ]
+bytes_take n xs h k = grind (arith, common_steps, h)
 
 -- a command has the code that it was made from
 code_of-with_code : (code : ℕ) (cs : List Command) → code_of (with_code code cs) ≡ code
 code_of-with_code code [] = refl
-code_of-with_code code (c ∷ cs) =
-    elim (cases_Bool (eqb (code_of c) code)) [
-      | inl t ↦ ap code_of (cond-true (eqb (code_of c) code) c (with_code code cs) t) ∙ eqb-true (code_of c) code t
-      | inr f ↦ ap code_of (cond-false (eqb (code_of c) code) c (with_code code cs) f) ∙ code_of-with_code code cs
-    ]
+code_of-with_code code (c ∷ cs) = grind (arith, nat_tests, code_of-with_code code cs)
 
 code_back : (code : ℕ) → code_of (command_of code) ≡ code
 code_back code = code_of-with_code code listed
 
 ten : (xs : List ℕ) → 10 ≤ length xs → xs ≡ get_or xs 0 0 ∷ get_or xs 1 0 ∷ get_or xs 2 0 ∷ get_or xs 3 0 ∷ get_or xs 4 0 ∷ get_or xs 5 0 ∷ get_or xs 6 0 ∷ get_or xs 7 0 ∷ get_or xs 8 0 ∷ get_or xs 9 0 ∷ drop 10 xs
-ten [] h = absurd (omega arith)
-ten (a ∷ []) h = absurd (omega arith)
-ten (a ∷ b ∷ []) h = absurd (omega arith)
-ten (a ∷ b ∷ c ∷ []) h = absurd (omega arith)
-ten (a ∷ b ∷ c ∷ d ∷ []) h = absurd (omega arith)
-ten (a ∷ b ∷ c ∷ d ∷ e ∷ []) h = absurd (omega arith)
-ten (a ∷ b ∷ c ∷ d ∷ e ∷ f ∷ []) h = absurd (omega arith)
-ten (a ∷ b ∷ c ∷ d ∷ e ∷ f ∷ g ∷ []) h = absurd (omega arith)
-ten (a ∷ b ∷ c ∷ d ∷ e ∷ f ∷ g ∷ i ∷ []) h = absurd (omega arith)
-ten (a ∷ b ∷ c ∷ d ∷ e ∷ f ∷ g ∷ i ∷ j ∷ []) h = absurd (omega arith)
-ten (a ∷ b ∷ c ∷ d ∷ e ∷ f ∷ g ∷ i ∷ j ∷ k ∷ xs) h = refl
+ten xs h = grind (arith, common_steps)
 
 -- data and counter, and what follows
 tail : (xs : List ℕ) (n : ℕ) → n + 2 ≤ length xs → Bytes xs → (take n xs ++ ((word xs n % 256) ∷ (word xs n / 256) ∷ [])) ++ drop (n + 2) xs ≡ xs
-tail xs n h small =
-    let low = small n in
-    let high = small (n + 1) in
-    let a : word xs n % 256 ≡ get_or xs n 0 = omega arith in
-    let b : word xs n / 256 ≡ get_or xs (n + 1) 0 = omega arith in
-    let one : n + 1 + 1 ≡ n + 2 = omega arith in
-    append_assoc (take n xs) ((word xs n % 256) ∷ (word xs n / 256) ∷ []) (drop (n + 2) xs)
-    ∙ (λ i. take n xs ++ (a i ∷ b i ∷ drop (sym one i) xs))
-    ∙ ap (λ x. take n xs ++ (get_or xs n 0 ∷ x)) (sym (drop_more xs (n + 1) 0 (omega arith)))
-    ∙ ap (λ x. take n xs ++ x) (sym (drop_more xs n 0 (omega arith)))
-    ∙ take-append-drop n xs
+tail xs n h small = let low = small n in let high = small (n + 1) in grind (arith, common_steps)
 
 -- the length's two bytes, by whether another datagram follows
 length_bytes : (a b flag : ℕ) → a < 256 → b < 256 → reserved_bits (a + 256 * b) ≡ 0 → (32768 ≤ a + 256 * b → flag ≡ 128) → (a + 256 * b < 32768 → flag ≡ 0) → (data_bits (a + 256 * b) % 256 ≡ a) × (data_bits (a + 256 * b) / 256 + flag ≡ b)
-length_bytes a b flag la lb clear high low =
-    elim (cases_Bool (more_bit (a + 256 * b))) [
-      | inl t ↦ (let h = leb-true 32768 (a + 256 * b) t in let f = high h in (omega arith, omega arith))
-      | inr n ↦ (let h = leb-false 32768 (a + 256 * b) n in let f = low h in (omega arith, omega arith))
-    ]
-
--- the four bytes of a number, by what is left above the lower ones
-second : (a b c d : ℕ) → a < 256 → b < 256 → (a + 256 * b + 65536 * (c + 256 * d)) / 256 % 256 ≡ b
-second a b c d la lb =
-    let q : (a + 256 * b + 65536 * (c + 256 * d)) / 256 ≡ b + 256 * (c + 256 * d) = omega arith in
-    ap (λ n. n % 256) q ∙ omega arith
-
-third : (a b c d : ℕ) → a < 256 → b < 256 → c < 256 → (a + 256 * b + 65536 * (c + 256 * d)) / 65536 % 256 ≡ c
-third a b c d la lb lc =
-    let q : (a + 256 * b + 65536 * (c + 256 * d)) / 65536 ≡ c + 256 * d = omega arith in
-    ap (λ n. n % 256) q ∙ omega arith
+length_bytes a b flag la lb clear high low = (omega arith, grind arith)
 
 -- a sound datagram's bytes are those of what it says
 pub encoded_again : (area : List ℕ) (flag : ℕ) → Bytes area → size area ≤ length area → reserved_bits (word area 6) ≡ 0 → (32768 ≤ word area 6 → flag ≡ 128) → (word area 6 < 32768 → flag ≡ 0) → encoded (fields_at area) flag ++ drop (size area) area ≡ area
 encoded_again area flag small fits clear high low =
-    let n = data_size area in
-    let b0 = small 0 in
-    let b1 = small 1 in
-    let b2 = small 2 in
-    let b3 = small 3 in
-    let b4 = small 4 in
-    let b5 = small 5 in
-    let b6 = small 6 in
-    let b7 = small 7 in
-    let b8 = small 8 in
-    let b9 = small 9 in
     let ld = length-drop 10 area in
     let ln : length (take (data_size area) (drop 10 area)) ≡ data_size area = length-take-le (data_size area) (drop 10 area) (omega arith) in
     let lb = length_bytes (get_or area 6 0) (get_or area 7 0) flag (small 6) (small 7) clear high low in
     let h0 = code_back (get_or area 0 0) in
     let h2 : double area 2 % 256 ≡ get_or area 2 0 = omega arith in
-    let h3 : double area 2 / 256 % 256 ≡ get_or area 3 0 = second (get_or area 2 0) (get_or area 3 0) (get_or area 4 0) (get_or area 5 0) b2 b3 in
-    let h4 : double area 2 / 65536 % 256 ≡ get_or area 4 0 = third (get_or area 2 0) (get_or area 3 0) (get_or area 4 0) (get_or area 5 0) b2 b3 b4 in
+    let h3 : double area 2 / 256 % 256 ≡ get_or area 3 0 = omega arith in
+    let h4 : double area 2 / 65536 % 256 ≡ get_or area 4 0 = omega arith in
     let h5 : double area 2 / 16777216 ≡ get_or area 5 0 = omega arith in
-    let h6 : length (take (data_size area) (drop 10 area)) % 256 ≡ get_or area 6 0 = ap (λ k. k % 256) ln ∙ lb.0 in
-    let h7 : length (take (data_size area) (drop 10 area)) / 256 + flag ≡ get_or area 7 0 = ap (λ k. k / 256 + flag) ln ∙ lb.1 in
     let h8 : word area 8 % 256 ≡ get_or area 8 0 = omega arith in
     let h9 : word area 8 / 256 ≡ get_or area 9 0 = omega arith in
     let k : 10 + (data_size area + 2) ≡ size area = omega arith in
@@ -126,15 +69,11 @@ encoded_again area flag small fits clear high low =
     let rest : (take (data_size area) (drop 10 area) ++ trailer (fields_at area)) ++ drop (size area) area ≡ drop 10 area =
     ap (λ x. (take (data_size area) (drop 10 area) ++ trailer (fields_at area)) ++ x) behind
     ∙ tail (drop 10 area) (data_size area) (omega arith) (bytes_drop 10 area small) in
-    (λ i. h0 i ∷ get_or area 1 0 ∷ h2 i ∷ h3 i ∷ h4 i ∷ h5 i ∷ h6 i ∷ h7 i ∷ h8 i ∷ h9 i ∷ rest i)
+    (λ i. h0 i ∷ get_or area 1 0 ∷ h2 i ∷ h3 i ∷ h4 i ∷ h5 i ∷ (ln i % 256) ∷ (ln i / 256 + flag) ∷ h8 i ∷ h9 i ∷ rest i)
+    ∙ (λ i. get_or area 0 0 ∷ get_or area 1 0 ∷ get_or area 2 0 ∷ get_or area 3 0 ∷ get_or area 4 0 ∷ get_or area 5 0 ∷ lb.0 i ∷ lb.1 i ∷ get_or area 8 0 ∷ get_or area 9 0 ∷ drop 10 area)
     ∙ sym (ten area (omega arith))
 
 -- The datagrams of a sound area, written again, are that area.
-
-same_true : (a b : Bool) → same a b ≡ true → a ≡ b
-same_true true b h = sym h
-same_true false true h = let z : ◌≡◌ {A = ℕ} 0 1 = cc in absurd (omega arith)
-same_true false false h = refl
 
 area_cons : (d : Fields) (ps : List Placed) → 0 < length ps → area_for (d ∷ fields_in ps) ≡ encoded d 128 ++ area_for (fields_in ps)
 area_cons d [] h = absurd (omega arith)
@@ -146,18 +85,11 @@ pub record Again (area : List ℕ) (ds : List Placed) : Type 0 where
   pub bytes : area_for (fields_in ds) ≡ area
 
 valid_at : (area : List ℕ) (z : ℕ) → Fine area z → Valid (fields_at area)
-valid_at area z f =
-    let fits = f.sized.fits in
-    let some = f.sized.some in
-    let few = f.sized.few in
-    let ld = length-drop 10 area in
-    let ln : length (take (data_size area) (drop 10 area)) ≡ data_size area = length-take-le (data_size area) (drop 10 area) (omega arith) in
-    record { some = omega arith; few = omega arith; listed = f.listed }
+valid_at area z f = record { some = grind (arith, common_steps); few = grind (arith, common_steps); listed = f.listed }
 
 last_again : (area : List ℕ) (p : ℕ) → Bytes area → Fine area (length area) → size area ≡ length area → Again area (placed_at area p ∷ [])
 last_again area p small f e =
-    let m : more_bit (word area 6) ≡ false = same_true _ _ f.sized.flag ∙ le-ltb (size area) (length area) (omega arith) in
-    let low = leb-false 32768 (word area 6) m in
+    let low : word area 6 < 32768 = grind (arith, nat_tests, f.sized.flag) in
     record {
       some = omega arith;
       valid = (valid_at area (length area) f, tt);
@@ -169,8 +101,7 @@ last_again area p small f e =
 
 more_again : (area : List ℕ) (p : ℕ) (ds : List Placed) → Bytes area → Fine area (length area) → size area < length area → Again (drop (size area) area) ds → Again area (placed_at area p ∷ ds)
 more_again area p ds small f lt a =
-    let m : more_bit (word area 6) ≡ true = same_true _ _ f.sized.flag ∙ lt-ltb (size area) (length area) lt in
-    let high = leb-true 32768 (word area 6) m in
+    let high : 32768 ≤ word area 6 = grind (arith, nat_tests, f.sized.flag) in
     record {
       some = omega arith;
       valid = (valid_at area (length area) f, a.valid);
@@ -198,7 +129,7 @@ again (suc f) area p small few h =
           ∙ sym (before_fault (placed_at area p) (judge f (drop (size area) area) (length area - size area) (p + size area)))
           ∙ ap fault_of (sym (judge_more f area (length area) p clear n)) ∙ h in
           subst (Again area) (sym hd)
-          (more_again area p (handed f (drop (size area) area) (p + size area)) small ok (below (size area) (length area) fits n)
+          (more_again area p (handed f (drop (size area) area) (p + size area)) small ok (omega arith)
           (again f (drop (size area) area) (p + size area) (bytes_drop (size area) area small) (omega arith) rest))
     ]
 
@@ -207,8 +138,7 @@ again (suc f) area p small few h =
 list_clear : (ds : List Fields) (p : ℕ) → AllValid ds → p + total ds ≤ 1514 → list_fault p ds ≡ None
 list_clear [] p v few = refl
 list_clear (d ∷ ds) p v few =
-    let k : p + 0 ≡ p = omega arith in
-    ap (λ o. or_else o (list_fault (p + size_in d) ds)) (ap (λ n. add_fault n d) (sym k) ∙ add_fits [] d ds p v few)
+    ap (λ o. or_else o (list_fault (p + size_in d) ds)) (add_clear p d (record { valid = v.0; fits = omega arith }))
     ∙ list_clear ds (p + size_in d) v.1 (omega arith)
 
 write_clear : (ps : List Placed) → 0 < length ps → AllValid (fields_in ps) → total (fields_in ps) ≤ 1498 → write_fault (fields_in ps) ≡ None
@@ -223,7 +153,7 @@ pub record Rewritable (bytes : List ℕ) (ds : List Placed) : Type 0 where
 
 then_ok : (r : Result ℕ FrameFault) (next : ℕ → Result (List Placed) FrameFault) (ds : List Placed) → and_then r next ≡ Ok ds → (z : ℕ) × (r ≡ Ok z) × (next z ≡ Ok ds)
 then_ok (Ok z) next ds h = (z, refl, h)
-then_ok (Err e) next ds h = let o : ◌≡◌ {A = ℕ} 0 1 = cc in absurd (omega arith)
+then_ok (Err e) next ds h = absurd (cc)
 
 pub rewritable : (bytes : List ℕ) (ds : List Placed) → Bytes bytes → judged bytes ≡ Ok ds → Rewritable bytes ds
 rewritable bytes ds small h =
@@ -254,7 +184,7 @@ rewritable bytes ds small h =
 pub rewritten : (frame before c : List ℕ) (ds : List Placed) (r : Result ℕ WriteFault) → Bytes frame → Ok ds ≡ judged frame → (r ≡ write_answer (length before) (fields_in ds)) × MatchResult r (λ n. Written before (fields_in ds) n c) (λ _. c ≡ before) → (r ≡ rewrite_answer (length before) (judged frame)) × MatchResult r (λ n. Rewritten before frame n c) (λ _. c ≡ before)
 rewritten frame before c ds r small h w =
     let k = rewritable frame ds small (sym h) in
-    let few : total (fields_in ds) ≤ 1498 = (write_fits (fields_in ds) k.clear).0.few in (
+    let few : total (fields_in ds) ≤ 1498 = (write_fits (fields_in ds) k.clear).few in (
       w.0 ∙ ap (λ o. unless o (in_buffer (length before) (frame_length (16 + total (fields_in ds))))) k.clear ∙ ap (rewrite_answer (length before)) h,
       MatchResult-weaker r w.1 (λ n y. record {
         datagrams = ds;

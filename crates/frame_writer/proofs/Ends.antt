@@ -1,85 +1,69 @@
 -- The end of a frame. Assumes nothing.
-use Rattle.std.proofs.Common.{◌≡◌, ℕ, ◌+◌, ◌-◌, ◌/◌, ◌%◌, ◌<◌, ◌≤◌, List, [], ◌∷◌, ◌++◌, length, take, drop, set, replicate, sym, refl, ap, ◌∙◌, append_assoc, append-nil, add-zero, arith}
-use lib.Seq.{take-set-lt}
-use Rattle.std.proofs.lemmas.List.{set-append_right, take-append-drop, take-take, drop-take, drop-set-add, drop-set-lt, take-replicate, length-replicate}
-use Rattle.command.specs.Codes.{code_of}
+use Rattle.std.proofs.Common.{◌≡◌, ℕ, ◌+◌, ◌-◌, ◌/◌, ◌≤◌, List, [], ◌∷◌, ◌++◌, length, take, drop, set, replicate, Some, sym, refl, ap, ◌∙◌, append_assoc, arith, length-drop}
+use Rattle.std.proofs.lemmas.Grind.{common_steps}
+use borrow.Rule.Slice.PartMut.{put_mid}
+use Rattle.std.proofs.lemmas.List.{set-append_left, set-append_right, take-append-drop, drop-set-add, length-take-le}
 use Rattle.frame.specs.Datagrams.{Fields}
-use Rattle.frame_writer.specs.Encoding.{size_in, trailer, encoded, followed, area_for, total}
-use Rattle.frame_writer.specs.Frames.{head_of, frame_of}
-use Rattle.frame_writer.specs.Writers.{last_from, last_size, Holds}
-use Rattle.frame_writer.proofs.Steps.{length-encoded, further}
+use Rattle.frame_writer.specs.declared.writers.Laid.{Laid}
+use Rattle.frame_writer.specs.Encoding.{size_in, encoded, followed, area_for, total, laid_at}
+use Rattle.frame_writer.specs.Frames.{head_of, frame_of, over}
+use Rattle.frame_writer.specs.Writers.{last_from, last_size, end_after, Holds}
+use Rattle.frame_writer.proofs.Round.{length_area, length_frame}
+use Rattle.frame_writer.proofs.Steps.{length-encoded}
 
 pub last_shift : (d : Fields) (ds : List Fields) (p : ℕ) → last_from p (d ∷ ds) ≡ p + last_from 0 (d ∷ ds)
-last_shift d [] p = sym (add-zero p)
-last_shift d (e ∷ ds) p = let a = last_shift e ds (p + size_in d) in let b = last_shift e ds (0 + size_in d) in omega arith
+last_shift d [] p = omega arith
+last_shift d (e ∷ ds) p = omega (arith, last_shift e ds (p + size_in d), last_shift e ds (0 + size_in d))
 
 -- without the last flag, datagrams that others follow are the datagrams of a frame
 closed : (ds : List Fields) → set (followed ds) (last_from 0 ds + 7) (last_size ds / 256) ≡ area_for ds
 closed [] = refl
-closed (d ∷ []) =
-    ap (λ x. set x 7 (length d.bytes / 256)) (append-nil (encoded d 128))
-    ∙ ap (λ x. code_of d.command ∷ d.index ∷ (d.address % 256) ∷ (d.address / 256 % 256) ∷ (d.address / 65536 % 256) ∷ (d.address / 16777216) ∷ (length d.bytes % 256) ∷ x ∷ (d.irq % 256) ∷ (d.irq / 256) ∷ (d.bytes ++ trailer d)) (sym (add-zero (length d.bytes / 256)))
+closed (d ∷ []) = grind (arith, common_steps)
 closed (d ∷ e ∷ ds) =
     let l = length-encoded d 128 in
     let s = last_shift e ds (0 + size_in d) in
-    let i : last_from (0 + size_in d) (e ∷ ds) + 7 - size_in d ≡ last_from 0 (e ∷ ds) + 7 = omega arith in
     set-append_right (encoded d 128) (followed (e ∷ ds)) (size_in d) (last_from (0 + size_in d) (e ∷ ds) + 7) (last_size (e ∷ ds) / 256) l (omega arith)
-    ∙ ap (λ k. encoded d 128 ++ set (followed (e ∷ ds)) k (last_size (e ∷ ds) / 256)) i
-    ∙ ap (λ x. encoded d 128 ++ x) (closed (e ∷ ds))
+    ∙ grind (arith, closed (e ∷ ds))
 
-split : (b : List ℕ) (end : ℕ) → 16 ≤ end → take end b ≡ take 16 b ++ drop 16 (take end b)
-split b end h = sym (take-append-drop 16 (take end b)) ∙ ap (λ x. x ++ drop 16 (take end b)) (take-take 16 end b h)
-
-middle : (b c : List ℕ) (end : ℕ) → 16 ≤ end → drop 16 b ≡ drop 16 c → drop 16 (take end b) ≡ drop 16 (take end c)
-middle b c end h e =
-    let k : 16 + (end - 16) ≡ end = omega arith in
-    ap (λ n. drop 16 (take n b)) (sym k) ∙ drop-take 16 (end - 16) b ∙ ap (take (end - 16)) e ∙ sym (drop-take 16 (end - 16) c) ∙ ap (λ n. drop 16 (take n c)) k
+-- the bytes behind a place, up to a further one and beyond
+behind : (b : List ℕ) (n end : ℕ) → n ≤ end → end ≤ length b → drop n b ≡ drop n (take end b) ++ drop end b
+behind b n end low high = let l = length-take-le end b high in let e = take-append-drop end b in grind (arith, common_steps)
 
 -- the header in front, and the last flag cleared
-pub sealed : (b c : List ℕ) (end last size : ℕ) (head : List ℕ) (ds : List Fields) → Holds b end last size ds → 16 < end → last + 12 ≤ end → take 16 c ≡ head → drop 16 c ≡ drop 16 (set b (last + 7) (size / 256)) → take end c ≡ head ++ area_for ds
-sealed b c end last size head [] h some back front rest = absurd (omega (arith, h.ends))
-sealed b c end last size head (d ∷ ds) h some back front rest =
-    let t = h.tail in
+pub sealed : (b : List ℕ) (last : Laid) (ds : List Fields) → Holds b (Some last) ds → end_after (Some last) ≤ length b → laid_at 0 (head_of (end_after (Some last) - 16)) (set b (last.at + 7) (last.size / 256)) ≡ (head_of (total ds) ++ area_for ds) ++ drop (end_after (Some last)) b
+sealed b last [] h long = let e = h.ends in absurd (omega arith)
+sealed b last (d ∷ ds) h long =
+    let ends = h.ends in
+    let end : ℕ = last.at + (last.size + 12) in
     let s = last_shift d ds 16 in
-    let i : last + 7 ≡ 16 + (last_from 0 (d ∷ ds) + 7) = omega arith in
-    let area : drop 16 (take end c) ≡ area_for (d ∷ ds) =
-    middle c (set b (last + 7) (size / 256)) end (omega arith) rest
-    ∙ ap (drop 16) (take-set-lt end b (last + 7) (size / 256) (omega arith))
-    ∙ ap (λ k. drop 16 (set (take end b) k (size / 256))) i
-    ∙ drop-set-add 16 (take end b) (last_from 0 (d ∷ ds) + 7) (size / 256)
-    ∙ ap (λ x. set x (last_from 0 (d ∷ ds) + 7) (size / 256)) h.area
-    ∙ ap (λ n. set (followed (d ∷ ds)) (last_from 0 (d ∷ ds) + 7) (n / 256)) h.sized
-    ∙ closed (d ∷ ds) in
-    split c end (omega arith) ∙ (λ j. front j ++ area j)
+    let at = h.tail.0 in
+    let i : last.at + 7 ≡ 16 + (last_from 0 (d ∷ ds) + 7) = omega arith in
+    let lt = length-take-le (last.at + (last.size + 12)) b long in
+    let ld = length-drop 16 (take (last.at + (last.size + 12)) b) in
+    let n = ap length h.area in
+    let area : drop 16 (set b (last.at + 7) (last.size / 256)) ≡ area_for (d ∷ ds) ++ drop (last.at + (last.size + 12)) b =
+    ap (λ k. drop 16 (set b k (last.size / 256))) i
+    ∙ drop-set-add 16 b (last_from 0 (d ∷ ds) + 7) (last.size / 256)
+    ∙ ap (λ x. set x (last_from 0 (d ∷ ds) + 7) (last.size / 256)) (behind b 16 (last.at + (last.size + 12)) (omega arith) long ∙ ap (λ x. x ++ drop (last.at + (last.size + 12)) b) h.area)
+    ∙ set-append_left (followed (d ∷ ds)) (drop (last.at + (last.size + 12)) b) (last_from 0 (d ∷ ds) + 7) (last.size / 256) (omega arith)
+    ∙ ap (λ k. set (followed (d ∷ ds)) (last_from 0 (d ∷ ds) + 7) (k / 256) ++ drop (last.at + (last.size + 12)) b) h.tail.1
+    ∙ ap (λ x. x ++ drop (last.at + (last.size + 12)) b) (closed (d ∷ ds)) in
+    let z : last.at + (last.size + 12) - 16 ≡ total (d ∷ ds) = omega arith in
+    (λ j. head_of (z j) ++ area j) ∙ sym (append_assoc (head_of (total (d ∷ ds))) (area_for (d ∷ ds)) (drop (last.at + (last.size + 12)) b))
 
--- behind the datagrams all is as it was
-pub kept : (b c : List ℕ) (end last v : ℕ) → 16 < end → last + 12 ≤ end → drop 16 c ≡ drop 16 (set b (last + 7) v) → drop end c ≡ drop end b
-kept b c end last v some back rest =
-    further c (set b (last + 7) v) 16 (end - 16) end (omega arith) rest
-    ∙ drop-set-lt end b (last + 7) v (omega arith)
+-- the parts of a frame over a buffer, where it needs no zeros and where some follow
+no_zeros : (b h a : List ℕ) (n end : ℕ) → n ≡ 0 → end ≡ length (h ++ (a ++ replicate n 0)) → (h ++ a) ++ drop end b ≡ over (h ++ (a ++ replicate n 0)) b
+no_zeros b h a n end z e = grind (arith, common_steps)
 
-pub frame_long : (ds : List Fields) (end : ℕ) → end ≡ 16 + total ds → 60 ≤ end → head_of (end - 16) ++ area_for ds ≡ frame_of ds
-frame_long ds end e h =
-    let z : end - 16 ≡ total ds = omega arith in
-    let k : 44 - total ds ≡ 0 = omega arith in
-    let pad : area_for ds ≡ area_for ds ++ replicate (44 - total ds) 0 = sym (ap (λ n. area_for ds ++ replicate n 0) k ∙ append-nil (area_for ds)) in
-    λ j. head_of (z j) ++ pad j
+some_zeros : (b h a zs : List ℕ) (n end : ℕ) → end ≡ length h + length a → zs ≡ replicate n 0 → put_mid end n ((h ++ a) ++ drop end b) zs ≡ over (h ++ (a ++ replicate n 0)) b
+some_zeros b h a zs n end e w = grind (arith, common_steps)
 
-pub frame_short : (zs : List ℕ) (ds : List Fields) (end : ℕ) → end ≡ 16 + total ds → end ≤ 60 → zs ≡ replicate (60 - end) 0 → (head_of (end - 16) ++ area_for ds) ++ zs ≡ frame_of ds
-frame_short zs ds end e h w =
-    let z : end - 16 ≡ total ds = omega arith in
+pub frame_long : (b : List ℕ) (ds : List Fields) (end : ℕ) → end ≡ 16 + total ds → 60 ≤ end → (head_of (total ds) ++ area_for ds) ++ drop end b ≡ over (frame_of ds) b
+frame_long b ds end e h = let l = length_frame ds in no_zeros b (head_of (total ds)) (area_for ds) (44 - total ds) end (omega arith) (omega arith)
+
+pub frame_short : (b zs : List ℕ) (ds : List Fields) (end : ℕ) → end ≡ 16 + total ds → end ≤ 60 → zs ≡ replicate (60 - end) 0 → put_mid end (60 - end) ((head_of (total ds) ++ area_for ds) ++ drop end b) zs ≡ over (frame_of ds) b
+frame_short b zs ds end e h w =
     let k : 60 - end ≡ 44 - total ds = omega arith in
-    let pad : area_for ds ++ zs ≡ area_for ds ++ replicate (44 - total ds) 0 = ap (λ x. area_for ds ++ x) (w ∙ ap (λ n. replicate n 0) k) in
-    append_assoc (head_of (end - 16)) (area_for ds) zs ∙ (λ j. head_of (z j) ++ pad j)
-
-abbrev pub padding : List ℕ
-padding = replicate 44 0
-
-pub zeros : (end : ℕ) → 16 < end → end < 60 → take (60 - end - 0) padding ≡ replicate (60 - end) 0
-zeros end low high =
-    let k : 60 - end - 0 ≡ 60 - end = omega arith in
-    ap (λ n. take n padding) k ∙ take-replicate (60 - end) 44 0 (omega arith)
-
-pub sixty : (end : ℕ) (zs : List ℕ) → end < 60 → zs ≡ replicate (60 - end) 0 → 60 ≡ end + length zs
-sixty end zs high e =
-    let l = ap length e ∙ length-replicate (60 - end) 0 in omega arith
+    let la = length_area ds in
+    ap (λ n. put_mid end n ((head_of (total ds) ++ area_for ds) ++ drop end b) zs) k
+    ∙ some_zeros b (head_of (total ds)) (area_for ds) zs (44 - total ds) end (omega arith) (w ∙ ap (λ n. replicate n 0) k)

@@ -1,52 +1,23 @@
 -- Datagrams of which none is refused. Assumes nothing.
-use Rattle.std.proofs.Common.{◌≡◌, ℕ, ◌+◌, ◌-◌, ◌<◌, ◌≤◌, false, not, eqb, ltb, List, [], ◌∷◌, ◌++◌, map, length, get_or, take, drop, Some, None, Ok, Err, Result, sym, refl, ap, ◌∙◌, subst, inl, inr, append_assoc, append-nil, arith, MatchResult}
-use Rattle.std.proofs.lemmas.List.{at_drop_more, at_drop_all, drop_all, drop_more, map_more}
-use Rattle.std.proofs.lemmas.Bool.{cases_lt, le-ltb, le-leb, eqb-false, ne_eqb, not_from_true, and_from, cond-true, cond-false}
+use Rattle.std.proofs.Common.{◌≡◌, ℕ, ◌+◌, ◌-◌, ◌<◌, ◌≤◌, List, [], ◌∷◌, ◌++◌, map, length, get_or, drop, None, Ok, Err, Result, sym, ap, ◌∙◌, subst, append_assoc, append-nil, arith, MatchResult}
+use Rattle.std.proofs.lemmas.List.{drop_more}
+use Rattle.std.proofs.lemmas.Bool.Decides.{nat_tests}
 use Rattle.frame.specs.declared.datagrams.Datagram.{Datagram}
-use Rattle.frame.specs.declared.faults.FrameFault.{FrameFault}
-use Rattle.frame.specs.declared.faults.FrameFault.TheVariants.{Empty}
 use Rattle.frame.specs.Datagrams.{Fields, Placed, fields_of}
-use Rattle.frame.specs.Judging.{known, data_in_range, or_else}
 use Rattle.frame.proofs.Fronts.{or_none}
 use Rattle.frame_writer.specs.declared.faults.WriteFault.{WriteFault}
-use Rattle.frame_writer.specs.Adding.{add_fault, add_answer, unless, in_buffer, list_fault, write_fault, write_answer, finish_answer, frame_length}
+use Rattle.frame_writer.specs.Adding.{add_fault, add_answer, in_buffer, list_fault, write_fault, write_answer, finish_answer, frame_length}
 use Rattle.frame_writer.specs.Encoding.{size_in, total, fields_in}
 use Rattle.frame_writer.specs.declared.writers.Writer.{Writer}
 use Rattle.frame_writer.specs.Writers.{AllValid, holds, end_of}
 use Rattle.frame_writer.specs.Frames.{frame_of, Written}
 use Rattle.frame_writer.proofs.Round.{length_frame}
-use Rattle.frame_writer.proofs.Steps.{addable, total_more, further}
-
--- The first fault of a list.
-
-pub fault_more : (xs : List Datagram) (i p : ℕ) (d : Datagram) → i < length xs → list_fault p (map fields_of (drop i xs)) ≡ or_else (add_fault p (fields_of (get_or xs i d))) (list_fault (p + size_in (fields_of (get_or xs i d))) (map fields_of (drop (i + 1) xs)))
-fault_more xs i p d h = at_drop_more (λ ys. list_fault p (map fields_of ys)) xs i d h
-
--- a refused addition is the list's fault
-pub fault_here : (xs : List Datagram) (i p : ℕ) (d : Datagram) (e : FrameFault) → i < length xs → Some e ≡ add_fault p (fields_of (get_or xs i d)) → Some e ≡ list_fault p (map fields_of (drop i xs))
-fault_here xs i p d e h is = ap (λ o. or_else o (list_fault (p + size_in (fields_of (get_or xs i d))) (map fields_of (drop (i + 1) xs)))) is ∙ sym (fault_more xs i p d h)
-
--- one that is made leaves the fault to the rest
-pub fault_next : (xs : List Datagram) (i p : ℕ) (d : Datagram) → i < length xs → None ≡ add_fault p (fields_of (get_or xs i d)) → list_fault (p + size_in (fields_of (get_or xs i d))) (map fields_of (drop (i + 1) xs)) ≡ list_fault p (map fields_of (drop i xs))
-fault_next xs i p d h is = ap (λ o. or_else o (list_fault (p + size_in (fields_of (get_or xs i d))) (map fields_of (drop (i + 1) xs)))) is ∙ sym (fault_more xs i p d h)
-
-pub fault_end : (xs : List Datagram) (i p : ℕ) → length xs ≤ i → None ≡ list_fault p (map fields_of (drop i xs))
-fault_end xs i p h = sym (at_drop_all (λ ys. list_fault p (map fields_of ys)) xs i h)
-
-pub fault_some : (xs : List Datagram) → 0 < length xs → list_fault 16 (map fields_of xs) ≡ write_fault (map fields_of xs)
-fault_some [] h = absurd (omega arith)
-fault_some (x ∷ xs) h = refl
-
-pub fault_none : (xs : List Datagram) → length xs ≡ 0 → Some Empty ≡ write_fault (map fields_of xs)
-fault_none [] h = refl
-fault_none (x ∷ xs) h = absurd (omega arith)
-
-pub some_left : (n : ℕ) → false ≡ eqb n 0 → 0 < n
-some_left n h = elim (cases_lt 0 n) [ inl lt ↦ lt | inr le ↦ absurd (eqb-false n 0 (sym h) (omega arith)) ]
+use Rattle.frame_writer.proofs.Steps.{Addable, addable, total_more, further}
 
 -- Datagrams that fit into one frame.
 
 pub record Fits (ds : List Fields) : Type 0 where
+  pub some : 0 < total ds
   pub valid : AllValid ds
   pub few : total ds ≤ 1498
 
@@ -60,103 +31,79 @@ list_fits (d ∷ ds) p h e =
     let few = r.1 in
     ((a.valid, r.0), omega arith)
 
-pub write_fits : (ds : List Fields) → write_fault ds ≡ None → Fits ds × (0 < total ds)
-write_fits [] h = let z : ◌≡◌ {A = ℕ} 0 1 = cc in absurd (omega arith)
+pub write_fits : (ds : List Fields) → write_fault ds ≡ None → Fits ds
+write_fits [] h = absurd (cc)
 write_fits (d ∷ ds) h =
     let r = list_fits (d ∷ ds) 16 (omega arith) h in
     let few = r.1 in
-    (record { valid = r.0; few = omega arith }, omega arith)
+    record { some = omega arith; valid = r.0; few = omega arith }
 
--- a datagram between others that fit with it is not refused
-pub add_fits : (done : List Fields) (d : Fields) (left : List Fields) (p : ℕ) → AllValid (done ++ d ∷ left) → p + total (done ++ d ∷ left) ≤ 1514 → add_fault (p + total done) d ≡ None
-add_fits [] d left p v few =
-    let some = v.0.some in
-    cond-false (not (data_in_range (length d.bytes))) _ _ (not_from_true _ (and_from _ _ (le-leb 1 (length d.bytes) v.0.some) (le-leb (length d.bytes) 1486 v.0.few)))
-    ∙ cond-false (ltb 1514 (p + 0 + size_in d)) _ _ (le-ltb 1514 (p + 0 + size_in d) (omega arith))
-    ∙ cond-true (known d.command) _ _ v.0.listed
-add_fits (e ∷ done) d left p v few =
-    let r = add_fits done d left (p + size_in e) v.1 (omega arith) in
-    let k : p + (size_in e + total done) ≡ p + size_in e + total done = omega arith in
-    ap (λ n. add_fault n d) k ∙ r
+-- a datagram that a frame may have, and for which there is room, is not refused
+pub add_clear : (p : ℕ) (d : Fields) → Addable p d → add_fault p d ≡ None
+add_clear p d a = grind (arith, nat_tests)
 
--- A frame under way, of which some datagrams are written and others are left.
+accepts : (bytes end : ℕ) (d : Fields) → 1514 ≤ bytes → Addable end d → add_answer bytes end d ≡ Ok tt
+accepts bytes end d long a = grind (arith, nat_tests)
 
-pub record Under (all : List Fields) (start : List ℕ) (w : Writer) (done left : List Fields) : Type 0 where
+-- nor is one between others that fit with it
+add_fits : (done : List Fields) (d : Fields) (left : List Fields) (p : ℕ) → AllValid (done ++ d ∷ left) → p + total (done ++ d ∷ left) ≤ 1514 → Addable (p + total done) d
+add_fits [] d left p v few = record { valid = v.0; fits = omega arith }
+add_fits (e ∷ done) d left p v few = grind (arith, add_fits done d left (p + size_in e) v.1 (omega arith))
+
+-- a buffer that serves is long enough
+pub served : {x : Unit {0}} {n : ℕ} → Ok x ≡ in_buffer n tt → 1514 ≤ n
+served {x} {n} h = grind (arith, nat_tests)
+
+-- A frame under way over what a buffer held at the start, of which some datagrams are left.
+
+pub record Under (all : List Fields) (start : List ℕ) (w : Writer) (left : List Fields) : Type 0 where
+  pub done : List Fields
   pub held : holds w done
   pub parts : done ++ left ≡ all
-  pub long : 1514 ≤ length w.buffer.now
+  pub len : length w.buffer.now ≡ length start
   pub behind : drop (end_of w) w.buffer.now ≡ drop (end_of w) start
 
 -- the next datagram is accepted
-pub under_adds : (all : List Fields) (start : List ℕ) (w : Writer) (done : List Fields) (d : Fields) (left : List Fields) → write_fault all ≡ None → Under all start w done (d ∷ left) → add_answer (length w.buffer.now) (end_of w) d ≡ Ok tt
-under_adds all start w done d left none u =
-    let f = (write_fits all none).0 in
+pub under_adds : {all : List Fields} {start : List ℕ} {w : Writer} {d : Fields} {left : List Fields} → write_fault all ≡ None → 1514 ≤ length start → Under all start w (d ∷ left) → add_answer (length w.buffer.now) (end_of w) d ≡ Ok tt
+under_adds {all} {start} {w} {d} {left} none long u =
+    let f = write_fits all none in
     let e = u.held.ends in
-    let v : AllValid (done ++ d ∷ left) = subst AllValid (sym u.parts) f.valid in
-    let few : total (done ++ d ∷ left) ≤ 1498 = subst (λ x. total x ≤ 1498) (sym u.parts) f.few in
-    let clear : add_fault (end_of w) d ≡ None = ap (λ n. add_fault n d) e ∙ add_fits done d left 16 v (omega arith) in
-    ap (λ o. unless o (in_buffer (length w.buffer.now) tt)) clear
-    ∙ cond-false (ltb (length w.buffer.now) 1514) _ _ (le-ltb (length w.buffer.now) 1514 u.long)
+    let len = u.len in
+    let v : AllValid (u.done ++ d ∷ left) = subst AllValid (sym u.parts) f.valid in
+    let few : total (u.done ++ d ∷ left) ≤ 1498 = subst (λ x. total x ≤ 1498) (sym u.parts) f.few in
+    let a : Addable (end_of w) d = subst (λ n. Addable n d) (sym e) (add_fits u.done d left 16 v (omega arith)) in
+    accepts (length w.buffer.now) (end_of w) d (omega arith) a
 
 -- and then it is written too
-pub under_more : (all : List Fields) (start : List ℕ) (w w' : Writer) (done : List Fields) (d : Fields) (left : List Fields) → Under all start w done (d ∷ left) → holds w' (done ++ d ∷ []) → length w'.buffer.now ≡ length w.buffer.now → drop (end_of w') w'.buffer.now ≡ drop (end_of w') w.buffer.now → Under all start w' (done ++ d ∷ []) left
-under_more all start w w' done d left u h same back =
-    let long = u.long in
+pub under_more : {all : List Fields} {start : List ℕ} {w w' : Writer} {d : Fields} {left : List Fields} → Under all start w (d ∷ left) → ((ds : List Fields) → holds w ds → holds w' (ds ++ d ∷ [])) → length w'.buffer.now ≡ length w.buffer.now → drop (end_of w') w'.buffer.now ≡ drop (end_of w') w.buffer.now → Under all start w' left
+under_more {all} {start} {w} {w'} {d} {left} u more same back =
+    let h = more u.done u.held in
     let e = u.held.ends in
     let e' = h.ends in
-    let t = total_more done d in
+    let t = total_more u.done d in
     record {
+      done = u.done ++ d ∷ [];
       held = h;
-      parts = append_assoc done (d ∷ []) left ∙ u.parts;
-      long = omega arith;
+      parts = append_assoc u.done (d ∷ []) left ∙ u.parts;
+      len = same ∙ u.len;
       behind = back ∙ further w.buffer.now start (end_of w) (size_in d) (end_of w') (omega arith) u.behind;
     }
 
--- the same over the datagrams that a reader hands out
-pub under_next : (all : List Fields) (start : List ℕ) (w : Writer) (done : List Fields) (d : Fields) (t : Placed) (ts rest : List Placed) → ts ≡ t ∷ rest → d ≡ t.fields → Under all start w done (fields_in ts) → Under all start w done (d ∷ fields_in rest)
-under_next all start w done d t ts rest is same u = subst (Under all start w done) (ap fields_in is ∙ ap (λ x. x ∷ fields_in rest) (sym same)) u
+-- the next of a slice of datagrams
+pub under_at : {all : List Fields} {start : List ℕ} {w : Writer} (xs : List Datagram) (i : ℕ) (d : Datagram) → i < length xs → Under all start w (map fields_of (drop i xs)) → Under all start w (fields_of (get_or xs i d) ∷ map fields_of (drop (i + 1) xs))
+under_at {all} {start} {w} xs i d h u = subst (λ ys. Under all start w (map fields_of ys)) (drop_more xs i d h) u
 
--- nothing is left once all is written
-pub under_all : (all : List Fields) (start : List ℕ) (w : Writer) (done : List Fields) → Under all start w done [] → Under all start w all []
-under_all all start w done u = subst (λ x. Under all start w x []) (sym (append-nil done) ∙ u.parts) u
-
--- The same over a slice of datagrams, of which those below i are written.
-
-pub fault_fits : (xs : List Datagram) (i p : ℕ) (d : Datagram) → None ≡ add_fault p (fields_of (get_or xs i d)) → p + size_in (fields_of (get_or xs i d)) ≤ 1514
-fault_fits xs i p d h = (addable p (fields_of (get_or xs i d)) (sym h)).fits
-
-abbrev pub UnderSlice : List Datagram → List ℕ → Writer → ℕ → Type 0
-UnderSlice xs start w i = Under (map fields_of xs) start w (map fields_of (take i xs)) (map fields_of (drop i xs))
-
-left_more : (xs : List Datagram) (start : List ℕ) (w : Writer) (i : ℕ) (d : Datagram) → i < length xs → UnderSlice xs start w i → Under (map fields_of xs) start w (map fields_of (take i xs)) (fields_of (get_or xs i d) ∷ map fields_of (drop (i + 1) xs))
-left_more xs start w i d h u = subst (λ ys. Under (map fields_of xs) start w (map fields_of (take i xs)) (map fields_of ys)) (drop_more xs i d h) u
-
-pub slice_adds : (xs : List Datagram) (start : List ℕ) (w : Writer) (i : ℕ) (d : Datagram) → None ≡ write_fault (map fields_of xs) → i < length xs → UnderSlice xs start w i → add_answer (length w.buffer.now) (end_of w) (fields_of (get_or xs i d)) ≡ Ok tt
-slice_adds xs start w i d none h u =
-    under_adds (map fields_of xs) start w (map fields_of (take i xs)) (fields_of (get_or xs i d)) (map fields_of (drop (i + 1) xs)) (sym none) (left_more xs start w i d h u)
-
-pub slice_more : (xs : List Datagram) (start : List ℕ) (w w' : Writer) (i : ℕ) (d : Datagram) → i < length xs → UnderSlice xs start w i → holds w' (map fields_of (take i xs) ++ fields_of (get_or xs i d) ∷ []) → length w'.buffer.now ≡ length w.buffer.now → drop (end_of w') w'.buffer.now ≡ drop (end_of w') w.buffer.now → UnderSlice xs start w' (i + 1)
-slice_more xs start w w' i d h u held same back =
-    subst (λ ys. Under (map fields_of xs) start w' ys (map fields_of (drop (i + 1) xs))) (sym (map_more fields_of xs i d h))
-    (under_more (map fields_of xs) start w w' (map fields_of (take i xs)) (fields_of (get_or xs i d)) (map fields_of (drop (i + 1) xs)) (left_more xs start w i d h u) held same back)
-
-pub slice_all : (xs : List Datagram) (start : List ℕ) (w : Writer) (i : ℕ) → length xs ≤ i → UnderSlice xs start w i → Under (map fields_of xs) start w (map fields_of xs) []
-slice_all xs start w i h u =
-    under_all (map fields_of xs) start w (map fields_of (take i xs)) (subst (λ ys. Under (map fields_of xs) start w (map fields_of (take i xs)) (map fields_of ys)) (drop_all i xs h) u)
+-- the next of those that a reader hands out
+pub under_next : {all : List Fields} {start : List ℕ} {w : Writer} {d : Fields} {t : Placed} {ts rest : List Placed} → ts ≡ t ∷ rest → d ≡ t.fields → Under all start w (fields_in ts) → Under all start w (d ∷ fields_in rest)
+under_next {all} {start} {w} {d} {t} {ts} {rest} is same u = subst (Under all start w) (ap fields_in is ∙ ap (λ x. x ∷ fields_in rest) (sym same)) u
 
 -- What a finished frame answers and leaves, when nothing is left.
 
 finish_answers : (bytes end : ℕ) (ds : List Fields) → write_fault ds ≡ None → end ≡ 16 + total ds → finish_answer bytes end ≡ write_answer bytes ds
-finish_answers bytes end ds clear e =
-    let some = (write_fits ds clear).1 in
-    cond-false (eqb end 16) _ _ (ne_eqb end 16 (λ same. omega arith))
-    ∙ ap (λ n. in_buffer bytes (frame_length n)) e
-    ∙ ap (λ o. unless o (in_buffer bytes (frame_length (16 + total ds)))) (sym clear)
+finish_answers bytes end ds clear e = let some = (write_fits ds clear).some in grind (arith, nat_tests)
 
 long_answers : (bytes : ℕ) (ds : List Fields) → write_fault ds ≡ None → 1514 ≤ bytes → write_answer bytes ds ≡ Ok (frame_length (16 + total ds))
-long_answers bytes ds clear long =
-    ap (λ o. unless o (in_buffer bytes (frame_length (16 + total ds)))) clear
-    ∙ cond-false (ltb bytes 1514) _ _ (le-ltb bytes 1514 long)
+long_answers bytes ds clear long = grind (arith, nat_tests)
 
 -- a frame finished over a buffer is written over what the buffer held at first
 written_first : (start b c : List ℕ) (end n : ℕ) (ds : List Fields) → end ≡ 16 + total ds → drop end b ≡ drop end start → Written b ds n c → Written start ds n c
@@ -168,20 +115,17 @@ written_first start b c end n ds e back w =
       trip = w.trip;
     }
 
--- the end of a frame all of whose datagrams are written
-pub finished : (all : List Fields) (start : List ℕ) (w : Writer) (c : List ℕ) (r : Result ℕ WriteFault) → write_fault all ≡ None → length w.buffer.now ≡ length start → Under all start w all [] → r ≡ finish_answer (length w.buffer.now) (end_of w) → MatchResult r (λ n. (ds : List Fields) → holds w ds → Written w.buffer.now ds n c) (λ _. c ≡ w.buffer.now) → (r ≡ write_answer (length start) all) × MatchResult r (λ n. Written start all n c) (λ _. c ≡ start)
-finished all start w c (Ok n) clear same u is done =
-    let h = u.held in (
-      is ∙ ap (λ k. finish_answer k (end_of w)) same ∙ finish_answers (length start) (end_of w) all clear h.ends,
-      written_first start w.buffer.now c (end_of w) n all h.ends u.behind (done all h),
-    )
-finished all start w c (Err e) clear same u is done =
-    let h = u.held in
-    let long = u.long in
-    let o = is ∙ ap (λ k. finish_answer k (end_of w)) same ∙ finish_answers (length start) (end_of w) all clear h.ends ∙ long_answers (length start) all clear (omega arith) in
-    let z : ◌≡◌ {A = ℕ} 0 1 = cc in
-    absurd (omega arith)
+all_held : {all : List Fields} {start : List ℕ} {w : Writer} {left : List Fields} → Under all start w left → left ≡ [] → holds w all
+all_held {all} {start} {w} {left} u none = subst (holds w) (sym (append-nil u.done) ∙ ap (λ x. u.done ++ x) (sym none) ∙ u.parts) u.held
 
--- a fact about a list is one about an equal list
-pub back : {x y : List ℕ} (P : List ℕ → Type 0) → P y → x ≡ y → P x
-back P h e = subst P (sym e) h
+-- the end of a frame all of whose datagrams are written
+pub finished : {all : List Fields} {start : List ℕ} {w : Writer} {left : List Fields} {b c : List ℕ} (r : Result ℕ WriteFault) → write_fault all ≡ None → 1514 ≤ length start → Under all start w left → left ≡ [] → r ≡ finish_answer (length w.buffer.now) (end_of w) → MatchResult r (λ n. (ds : List Fields) → holds w ds → Written w.buffer.now ds n c) (λ _. c ≡ w.buffer.now) → b ≡ c → (r ≡ write_answer (length start) all) × MatchResult r (λ n. Written start all n b) (λ _. b ≡ start)
+finished {all} {start} {w} {left} {b} {c} (Ok n) clear long u none is done e =
+    let h = all_held u none in (
+      is ∙ ap (λ k. finish_answer k (end_of w)) u.len ∙ finish_answers (length start) (end_of w) all clear h.ends,
+      subst (Written start all n) (sym e) (written_first start w.buffer.now c (end_of w) n all h.ends u.behind (done all h)),
+    )
+finished {all} {start} {w} {left} {b} {c} (Err f) clear long u none is done e =
+    let h = all_held u none in
+    let o = is ∙ ap (λ k. finish_answer k (end_of w)) u.len ∙ finish_answers (length start) (end_of w) all clear h.ends ∙ long_answers (length start) all clear long in
+    absurd (cc)

@@ -1,7 +1,8 @@
 -- What is written is read. Assumes nothing.
-use Rattle.std.proofs.Common.{◌≡◌, ℕ, suc, ◌+◌, ◌-◌, ◌*◌, ◌/◌, ◌%◌, ◌<◌, ◌≤◌, true, ltb, List, [], ◌∷◌, ◌++◌, length, get_or, take, drop, replicate, None, Ok, sym, refl, ap, ◌∙◌, subst, append_assoc, append-nil, add-zero, arith}
-use Rattle.std.proofs.lemmas.List.{length-append, take_at, drop_at, get_or-append-add, length-replicate, take-append-drop}
-use Rattle.std.proofs.lemmas.Bool.{le-ltb, lt-ltb, le-leb, lt-leb}
+use Rattle.std.proofs.Common.{◌≡◌, ℕ, suc, ◌+◌, ◌-◌, ◌*◌, ◌/◌, ◌%◌, ◌<◌, ◌≤◌, true, ltb, List, [], ◌∷◌, ◌++◌, length, take, drop, replicate, Some, None, Ok, sym, refl, ap, ◌∙◌, subst, append_assoc, append-nil, arith}
+use Rattle.std.proofs.lemmas.List.{length-append, take_at, drop_at, length-replicate}
+use Rattle.std.proofs.lemmas.Bool.Decides.{nat_tests}
+use Rattle.std.proofs.lemmas.Grind.{common_steps}
 use Rattle.command.specs.declared.Command.{Command}
 use Rattle.command.specs.declared.Command.TheVariants.{Nop, Aprd, Apwr, Aprw, Fprd, Fpwr, Fprw, Brd, Bwr, Lrd, Lwr, Lrw, Unlisted}
 use Rattle.command.specs.Codes.{code_of, command_of}
@@ -12,8 +13,9 @@ use Rattle.frame.proofs.Fronts.{front_clear}
 use Rattle.frame.proofs.Heads.{headed_clear}
 use Rattle.frame.proofs.Walk.{judge-same, judge_last, judge_more}
 use Rattle.frame_writer.specs.Encoding.{size_in, trailer, encoded, area_for, total, laid_from}
-use Rattle.frame_writer.specs.Frames.{frame_of, ReadsAs, Written}
-use Rattle.frame_writer.specs.Writers.{Valid, AllValid, Holds}
+use Rattle.frame_writer.specs.Frames.{frame_of, over, ReadsAs, Written}
+use Rattle.frame_writer.specs.declared.writers.Laid.{Laid}
+use Rattle.frame_writer.specs.Writers.{end_after, Valid, AllValid, Holds}
 use Rattle.frame_writer.specs.Adding.{frame_length}
 use Rattle.frame_writer.proofs.Steps.{length-encoded}
 
@@ -31,7 +33,7 @@ command_back Bwr h = refl
 command_back Lrd h = refl
 command_back Lwr h = refl
 command_back Lrw h = refl
-command_back (Unlisted code) h = let z : ◌≡◌ {A = ℕ} 0 1 = cc in absurd (omega arith)
+command_back (Unlisted code) h = absurd (cc)
 
 -- numbers of their bytes
 whole_two : (n : ℕ) → n % 256 + 256 * (n / 256) ≡ n
@@ -40,26 +42,17 @@ whole_two n = omega arith
 whole_four : (a : ℕ) → a % 256 + 256 * (a / 256 % 256) + 65536 * (a / 65536 % 256 + 256 * (a / 16777216)) ≡ a
 whole_four a = omega arith
 
--- the 16 bits of a length n, with the flag in their second byte
-pub record Sized (n flag : ℕ) : Type 0 where
+-- the 16 bits of a length n, with the flag in their second byte, where so many bytes are left
+pub record Sized (n flag left : ℕ) : Type 0 where
   pub bits : data_bits (n % 256 + 256 * (n / 256 + flag)) ≡ n
   pub clear : reserved_bits (n % 256 + 256 * (n / 256 + flag)) ≡ 0
+  pub more : same (more_bit (n % 256 + 256 * (n / 256 + flag))) (ltb (data_bits (n % 256 + 256 * (n / 256 + flag)) + 12) left) ≡ true
 
-sized_last : (n : ℕ) → n ≤ 1486 → Sized n 0
-sized_last n h = record { bits = omega arith; clear = omega arith }
+sized_last : (n left : ℕ) → n ≤ 1486 → left ≡ n + 12 → Sized n 0 left
+sized_last n left h l = record { bits = omega arith; clear = omega arith; more = grind (arith, nat_tests) }
 
-sized_more : (n : ℕ) → n ≤ 1486 → Sized n 128
-sized_more n h = record { bits = omega arith; clear = omega arith }
-
-flag_last : (n there : ℕ) → n ≤ 1486 → there ≡ n + 12 → same (more_bit (n % 256 + 256 * (n / 256 + 0))) (ltb (data_bits (n % 256 + 256 * (n / 256 + 0)) + 12) there) ≡ true
-flag_last n there h l =
-    let b = (sized_last n h).bits in
-    λ i. same (lt-leb 32768 (n % 256 + 256 * (n / 256 + 0)) (omega arith) i) (le-ltb (data_bits (n % 256 + 256 * (n / 256 + 0)) + 12) there (omega arith) i)
-
-flag_more : (n there : ℕ) → n ≤ 1486 → n + 12 < there → same (more_bit (n % 256 + 256 * (n / 256 + 128))) (ltb (data_bits (n % 256 + 256 * (n / 256 + 128)) + 12) there) ≡ true
-flag_more n there h l =
-    let b = (sized_more n h).bits in
-    λ i. same (le-leb 32768 (n % 256 + 256 * (n / 256 + 128)) (omega arith) i) (lt-ltb (data_bits (n % 256 + 256 * (n / 256 + 128)) + 12) there (omega arith) i)
+sized_more : (n left : ℕ) → n ≤ 1486 → n + 12 < left → Sized n 128 left
+sized_more n left h l = record { bits = omega arith; clear = omega arith; more = grind (arith, nat_tests) }
 
 -- a datagram in front of the rest of an area
 pub record Front (d : Fields) (area rest : List ℕ) (p : ℕ) : Type 0 where
@@ -74,22 +67,18 @@ body d flag rest = append_assoc d.bytes (trailer d) rest
 
 reads_back : (d : Fields) (flag : ℕ) (rest : List ℕ) → known d.command ≡ true → data_size (encoded d flag ++ rest) ≡ length d.bytes → fields_at (encoded d flag ++ rest) ≡ d
 reads_back d flag rest listed e =
-    let area = encoded d flag ++ rest in
     let pay : take (data_size (encoded d flag ++ rest)) (drop 10 (encoded d flag ++ rest)) ≡ d.bytes =
     (λ i. take (e i) (body d flag rest i)) ∙ take_at d.bytes (trailer d ++ rest) (length d.bytes) refl in
-    let low : get_or (drop 10 (encoded d flag ++ rest)) (data_size (encoded d flag ++ rest)) 0 ≡ d.counter % 256 =
-    (λ i. get_or (body d flag rest i) (e i) 0) ∙ ap (λ k. get_or (d.bytes ++ (trailer d ++ rest)) k 0) (sym (add-zero (length d.bytes))) ∙ get_or-append-add d.bytes (trailer d ++ rest) 0 0 in
-    let high : get_or (drop 10 (encoded d flag ++ rest)) (data_size (encoded d flag ++ rest) + 1) 0 ≡ d.counter / 256 =
-    (λ i. get_or (body d flag rest i) (e i + 1) 0) ∙ get_or-append-add d.bytes (trailer d ++ rest) 1 0 in
-    let k : word (drop 10 (encoded d flag ++ rest)) (data_size (encoded d flag ++ rest)) ≡ d.counter = (λ i. low i + 256 * high i) ∙ whole_two d.counter in
+    let k : word (drop 10 (encoded d flag ++ rest)) (data_size (encoded d flag ++ rest)) ≡ d.counter =
+    (λ i. word (body d flag rest i) (e i)) ∙ grind (arith, common_steps) in
     let c = command_back d.command listed in
     let a = whole_four d.address in
     let q = whole_two d.irq in
     λ i. record { command = c i; index = d.index; address = a i; irq = q i; bytes = pay i; counter = k i }
 
 -- a valid datagram with the right flag is sound
-front : (d : Fields) (flag : ℕ) (rest : List ℕ) (p : ℕ) → Valid d → Sized (length d.bytes) flag → same (more_bit (length d.bytes % 256 + 256 * (length d.bytes / 256 + flag))) (ltb (data_bits (length d.bytes % 256 + 256 * (length d.bytes / 256 + flag)) + 12) (length (encoded d flag ++ rest))) ≡ true → Front d (encoded d flag ++ rest) rest p
-front d flag rest p v s more =
+front : (d : Fields) (flag : ℕ) (rest : List ℕ) (p : ℕ) → Valid d → Sized (length d.bytes) flag (length (encoded d flag ++ rest)) → Front d (encoded d flag ++ rest) rest p
+front d flag rest p v s =
     let l = length-append (encoded d flag) rest in
     let k = length-encoded d flag in
     let b = s.bits in
@@ -99,7 +88,7 @@ front d flag rest p v s more =
       sized = ap (λ n. n + 12) s.bits;
       clear = front_clear (encoded d flag ++ rest) (length (encoded d flag ++ rest)) p (record {
         long = omega arith;
-        sized = record { some = omega arith; few = omega arith; clear = s.clear; fits = omega arith; flag = more };
+        sized = record { some = omega arith; few = omega arith; clear = s.clear; fits = omega arith; flag = s.more };
         listed = ap known (command_back d.command v.listed) ∙ v.listed;
       });
       behind = drop_at (encoded d flag) rest (size_in d) k;
@@ -108,22 +97,17 @@ front d flag rest p v s more =
     }
 
 front_more : (d : Fields) (rest : List ℕ) (p : ℕ) → Valid d → 0 < length rest → Front d (encoded d 128 ++ rest) rest p
-front_more d rest p v some =
-    let l = length-append (encoded d 128) rest in
-    let k = length-encoded d 128 in
-    front d 128 rest p v (sized_more (length d.bytes) v.few) (flag_more (length d.bytes) (length (encoded d 128 ++ rest)) v.few (omega arith))
+front_more d rest p v some = front d 128 rest p v (sized_more (length d.bytes) _ v.few (simp length-append (omega arith)))
 
 front_last : (d : Fields) (p : ℕ) → Valid d → Front d (encoded d 0) [] p
 front_last d p v =
-    let l = length-append (encoded d 0) [] in
-    let k = length-encoded d 0 in
     subst (λ a. Front d a [] p) (append-nil (encoded d 0))
-    (front d 0 [] p v (sized_last (length d.bytes) v.few) (flag_last (length d.bytes) (length (encoded d 0 ++ [])) v.few (omega arith)))
+    (front d 0 [] p v (sized_last (length d.bytes) _ v.few (simp length-append (omega arith))))
 
 pub length_area : (ds : List Fields) → length (area_for ds) ≡ total ds
 length_area [] = refl
-length_area (d ∷ []) = let l = length-encoded d 0 in omega arith
-length_area (d ∷ e ∷ ds) = let l = length-append (encoded d 128) (area_for (e ∷ ds)) in let k = length-encoded d 128 in let h = length_area (e ∷ ds) in omega arith
+length_area (d ∷ []) = simp length-append (omega arith)
+length_area (d ∷ e ∷ ds) = simp length-append (omega (arith, length_area (e ∷ ds)))
 
 -- the datagrams of an area that valid ones were written into
 pub area_reads : (d : Fields) (ds : List Fields) (p : ℕ) → AllValid (d ∷ ds) → judge_area (area_for (d ∷ ds)) (length (area_for (d ∷ ds))) p ≡ Ok (laid_from p (d ∷ ds))
@@ -134,12 +118,10 @@ area_reads d [] p v =
     judge_last (length (encoded d 0)) (encoded d 0) (length (encoded d 0)) p f.clear (omega arith)
     ∙ ap (λ x. Ok (record { offset = p + 10; fields = x } ∷ [])) f.reads
 area_reads d (e ∷ ds) p v =
-    let rest = area_for (e ∷ ds) in
     let la = length_area (e ∷ ds) in
     let f = front_more d (area_for (e ∷ ds)) p v.0 (omega arith) in
     let l = f.long in
     let s = f.sized in
-    let area = encoded d 128 ++ area_for (e ∷ ds) in
     let left : length (encoded d 128 ++ area_for (e ∷ ds)) - size (encoded d 128 ++ area_for (e ∷ ds)) ≡ length (area_for (e ∷ ds)) = omega arith in
     let there : drop (size (encoded d 128 ++ area_for (e ∷ ds))) (encoded d 128 ++ area_for (e ∷ ds)) ≡ area_for (e ∷ ds) = ap (λ n. drop n (encoded d 128 ++ area_for (e ∷ ds))) s ∙ f.behind in
     judge_more (length (encoded d 128 ++ area_for (e ∷ ds))) (encoded d 128 ++ area_for (e ∷ ds)) (length (encoded d 128 ++ area_for (e ∷ ds))) p f.clear (λ same. omega arith)
@@ -148,22 +130,11 @@ area_reads d (e ∷ ds) p v =
     judge-same (length (encoded d 128 ++ area_for (e ∷ ds))) (suc (length (area_for (e ∷ ds)))) (area_for (e ∷ ds)) (length (area_for (e ∷ ds))) (p + size_in d) (omega arith) (omega arith)
     ∙ area_reads e ds (p + size_in d) v.1)
 
--- the two bytes of the EtherCAT header
-head_size : (z : ℕ) → z ≤ 1498 → (z % 256 + 256 * (z / 256 + 16)) % 2048 ≡ z
-head_size z h = omega arith
-
-head_kind : (z : ℕ) → z ≤ 1498 → (z % 256 + 256 * (z / 256 + 16)) / 2048 ≡ 2
-head_kind z h = omega arith
-
 pub length_frame : (ds : List Fields) → length (frame_of ds) ≡ 16 + (total ds + (44 - total ds))
-length_frame ds =
-    let a = length_area ds in
-    let r : length (replicate {A = ℕ} (44 - total ds) 0) ≡ 44 - total ds = length-replicate (44 - total ds) 0 in
-    let l = length-append (area_for ds) (replicate (44 - total ds) 0) in
-    omega arith
+length_frame ds = simp (length-append, length-replicate) (omega (arith, length_area ds))
 
 pub frame_size : (ds : List Fields) → total ds ≤ 1498 → area_size (frame_of ds) ≡ total ds
-frame_size ds few = head_size (total ds) few
+frame_size ds few = omega arith
 
 pub frame_area : (ds : List Fields) → total ds ≤ 1498 → area_of (frame_of ds) ≡ area_for ds
 frame_area ds few =
@@ -180,7 +151,7 @@ frame_reads d ds v few =
       low = omega arith;
       high = omega arith;
       ether = refl;
-      kind = head_kind (total (d ∷ ds)) few;
+      kind = omega arith;
       some = omega arith;
       size = size;
     }) in
@@ -194,14 +165,13 @@ frame_reads d ds v few =
     }
 
 -- a frame that was finished over a buffer
-pub written : (b c : List ℕ) (end last size n : ℕ) (ds : List Fields) → Holds b end last size ds → 16 < end → end ≤ 1514 → n ≡ frame_length end → take n c ≡ frame_of ds → drop n c ≡ drop n b → Written b ds n c
-written b c end last size n [] h some high len front back = absurd (omega (arith, h.ends))
-written b c end last size n (d ∷ ds) h some high len front back =
+pub written : (b c : List ℕ) (last : Laid) (n : ℕ) (ds : List Fields) → Holds b (Some last) ds → n ≡ frame_length (end_after (Some last)) → c ≡ over (frame_of ds) b → Written b ds n c
+written b c last n [] h len is = let e = h.ends in absurd (omega arith)
+written b c last n (d ∷ ds) h len is =
     let e = h.ends in
     let l = length_frame (d ∷ ds) in
-    let same : n ≡ length (frame_of (d ∷ ds)) = omega arith in
     record {
-      frame = sym (take-append-drop n c) ∙ (λ i. front i ++ back i) ∙ ap (λ k. frame_of (d ∷ ds) ++ drop k b) same;
-      len = same;
+      frame = is;
+      len = omega arith;
       trip = frame_reads d ds h.valid (omega arith);
     }

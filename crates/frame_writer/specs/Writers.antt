@@ -1,7 +1,8 @@
 -- What a frame under way holds. Assumes nothing.
-use Rattle.std.specs.Prelude.{◌≡◌, ℕ, ◌+◌, ◌≤◌, true, List, [], ◌∷◌, length, take, drop}
+use Rattle.std.specs.Prelude.{◌≡◌, ℕ, ◌+◌, ◌≤◌, true, List, [], ◌∷◌, length, take, drop, Option, Some, None}
 use Rattle.frame.specs.Datagrams.{Fields}
 use Rattle.frame.specs.Judging.{known}
+use Rattle.frame_writer.specs.declared.writers.Laid.{Laid}
 use Rattle.frame_writer.specs.declared.writers.Writer.{Writer}
 use Rattle.frame_writer.specs.Encoding.{size_in, followed, total}
 
@@ -27,17 +28,26 @@ abbrev pub AllValid : List Fields → Type 0
 AllValid [] = Unit {0}
 AllValid (d ∷ ds) = Valid d × AllValid ds
 
--- the buffer holds these datagrams from byte 16 on, and the other fields say where they end and where the last is
-pub record Holds (buffer : List ℕ) (end last size : ℕ) (ds : List Fields) : Type 0 where
-  pub area : drop 16 (take end buffer) ≡ followed ds
-  pub ends : end ≡ 16 + total ds
-  pub tail : last ≡ last_from 16 ds
-  pub sized : size ≡ last_size ds
+-- where the next datagram would begin, behind the last
+abbrev pub end_after : Option Laid → ℕ
+end_after None = 16
+end_after (Some l) = l.at + (l.size + 12)
+
+-- the last of these datagrams begins there and has so many bytes of data, if there is one
+abbrev pub IsLast : Option Laid → List Fields → Type 0
+IsLast None ds = ds ≡ []
+IsLast (Some l) ds = (l.at ≡ last_from 16 ds) × (l.size ≡ last_size ds)
+
+-- the buffer holds these datagrams from byte 16 on, of which that is the last
+pub record Holds (buffer : List ℕ) (last : Option Laid) (ds : List Fields) : Type 0 where
+  pub area : drop 16 (take (end_after last) buffer) ≡ followed ds
+  pub ends : end_after last ≡ 16 + total ds
+  pub tail : IsLast last ds
   pub valid : AllValid ds
 
--- where the next datagram would begin
+-- where a frame's next datagram would begin
 abbrev pub end_of : Writer → ℕ
-end_of w = w.progress.end
+end_of w = end_after w.last
 
 abbrev pub holds : Writer → List Fields → Type 0
-holds w ds = Holds w.buffer.now w.progress.end w.progress.last w.progress.size ds
+holds w ds = Holds w.buffer.now w.last ds

@@ -1,33 +1,45 @@
 // Datagrams added to a frame under way, one at a time.
 ghost use Rattle.std.specs.Prelude.{◌≡◌, ℕ, ◌+◌, ◌≤◌, List, [], length, drop, MatchResult};
 ghost use Rattle.frame.specs.Datagrams.{Fields, fields_of};
-ghost use Rattle.frame_writer.specs.Adding.{add_fault, add_answer, added};
+ghost use Rattle.frame.specs.Judging.{fault_of};
+ghost use Rattle.frame_writer.specs.Adding.{add_fault, add_answer, added, in_buffer};
 ghost use Rattle.frame_writer.specs.Encoding.{size_in, encoded, laid_at};
 ghost use Rattle.frame_writer.specs.Writers.{holds, end_of};
 
 use crate::encoding::put;
 use crate::faults::WriteFault;
-use crate::writers::{Progress, Writer};
+use crate::writers::{Laid, Writer};
 use command::Command;
-use frame::limits::{DATAGRAM_EXTRA_BYTES, FRAME_HEADER_BYTES, MAX_DATA_BYTES, MAX_FRAME_BYTES};
+use frame::limits::{DATAGRAM_EXTRA_BYTES, MAX_DATA_BYTES, MAX_FRAME_BYTES};
 use frame::{Datagram, FrameFault};
 
-// What forbids a datagram that would begin at that offset.
-pub(crate) fn add_fault(at: usize, datagram: &Datagram<'_>) -> Option<FrameFault>
+// Whether a datagram may begin at that offset, or what forbids it.
+pub(crate) fn check_datagram(at: usize, datagram: &Datagram<'_>) -> Result<(), FrameFault>
     requires { at ≤ 1514 }
-    ensures { result ≡ add_fault at (fields_of datagram.now) }
+    ensures { fault_of result ≡ add_fault at (fields_of datagram.now) }
 {
     let bytes = datagram.data.len();
     if bytes < 1 || bytes > MAX_DATA_BYTES {
-        return Some(FrameFault::DataLength { at, bytes });
+        return Err(FrameFault::DataLength { at, bytes });
     }
     if at + (bytes + DATAGRAM_EXTRA_BYTES) > MAX_FRAME_BYTES {
-        return Some(FrameFault::Passes { at });
+        return Err(FrameFault::Passes { at });
     }
     match datagram.command {
-        Command::Unlisted(code) => Some(FrameFault::Unlisted { at, code }),
-        _ => None,
+        Command::Unlisted(code) => Err(FrameFault::Unlisted { at, code }),
+        _ => Ok(()),
     }
+}
+
+// Whether a buffer serves for any frame.
+pub(crate) fn check_buffer(buffer: &[u8]) -> Result<(), WriteFault>
+    ensures { result ≡ in_buffer (length buffer.now) tt }
+{
+    let bytes = buffer.len();
+    if bytes < MAX_FRAME_BYTES {
+        return Err(WriteFault::ShortBuffer { bytes });
+    }
+    Ok(())
 }
 
 impl<'a> Writer<'a> {
@@ -37,12 +49,7 @@ impl<'a> Writer<'a> {
         ensures bytes { result.buffer.now ≡ buffer.old }
         ensures same { result.buffer.ghost_name ≡ buffer.entry.ghost_name }
     {
-        let progress = Progress {
-            end: FRAME_HEADER_BYTES,
-            last: 0,
-            size: 0,
-        };
-        Writer { buffer, progress }
+        Writer { buffer, last: None }
     }
 
     // Adds a datagram, or says why not and alters nothing.
@@ -54,21 +61,13 @@ impl<'a> Writer<'a> {
         ensures len { length self.new.buffer.now ≡ length self.old.buffer.now }
         ensures same { self.new.buffer.ghost_name ≡ self.old.buffer.ghost_name }
     {
-        let at = self.progress.end;
-        if let Some(fault) = add_fault(at, datagram) {
-            return Err(WriteFault::Refused(fault));
-        }
-        let bytes = self.buffer.len();
-        if bytes < MAX_FRAME_BYTES {
-            return Err(WriteFault::ShortBuffer { bytes });
-        }
-        put(self.buffer, at, datagram);
+        let at = self.end();
+        check_datagram(at, datagram)?;
+        let buffer = &mut *self.buffer;
+        check_buffer(buffer)?;
+        put(buffer, at, datagram);
         let size = datagram.data.len();
-        self.progress = Progress {
-            end: at + (size + DATAGRAM_EXTRA_BYTES),
-            last: at,
-            size,
-        };
+        self.last = Some(Laid { at, size });
         Ok(())
     }
 }

@@ -1,16 +1,18 @@
 // The bytes of a datagram.
-ghost use Rattle.std.specs.Prelude.{◌≡◌, ◌+◌, ◌<◌, ◌≤◌, ◌++◌, length, take, drop};
+ghost use Rattle.std.specs.Prelude.{◌≡◌, ◌+◌, ◌<◌, ◌≤◌, length};
 ghost use Rattle.frame.specs.Datagrams.{fields_of};
-ghost use Rattle.frame_writer.specs.Encoding.{header, trailer, encoded, size_in};
+ghost use Rattle.frame_writer.specs.Encoding.{header, encoded, size_in, laid_at};
 
 use frame::Datagram;
 use frame::limits::DATAGRAM_HEADER_BYTES;
 
+// the bit beside a datagram's length that says that another follows
+const MORE: u16 = 0x8000;
+
 // Puts bytes at a place of the buffer.
 pub(crate) fn paste_at(buffer: &mut [u8], at: usize, bytes: &[u8])
     requires { at + length bytes.now ≤ length buffer.old }
-    ensures front { take (at + length bytes.now) buffer.new ≡ take at buffer.old ++ bytes.now }
-    ensures back { drop (at + length bytes.now) buffer.new ≡ drop (at + length bytes.now) buffer.old }
+    ensures { buffer.new ≡ laid_at at bytes.now buffer.old }
 {
     buffer[at..at + bytes.len()].copy_from_slice(bytes);
 }
@@ -20,20 +22,20 @@ fn header_bytes(datagram: &Datagram<'_>) -> [u8; 10]
     requires { size_in (fields_of datagram.now) < 1499 }
     ensures { result ≡ header (fields_of datagram.now) 128 }
 {
-    let address = datagram.address;
-    let irq = datagram.irq;
-    let size = datagram.data.len();
+    let [a0, a1, a2, a3] = datagram.address.to_le_bytes();
+    let [l0, l1] = (datagram.data.len() as u16 + MORE).to_le_bytes();
+    let [q0, q1] = datagram.irq.to_le_bytes();
     [
         u8::from(datagram.command),
         datagram.index,
-        (address % 256) as u8,
-        (address / 256 % 256) as u8,
-        (address / 65536 % 256) as u8,
-        (address / 16777216) as u8,
-        (size % 256) as u8,
-        (size / 256 + 128) as u8,
-        (irq % 256) as u8,
-        (irq / 256) as u8,
+        a0,
+        a1,
+        a2,
+        a3,
+        l0,
+        l1,
+        q0,
+        q1,
     ]
 }
 
@@ -41,12 +43,10 @@ fn header_bytes(datagram: &Datagram<'_>) -> [u8; 10]
 pub(crate) fn put(buffer: &mut [u8], at: usize, datagram: &Datagram<'_>)
     requires fits { at + size_in (fields_of datagram.now) ≤ length buffer.old }
     requires small { size_in (fields_of datagram.now) < 1499 }
-    ensures front { take (at + size_in (fields_of datagram.now)) buffer.new ≡ take at buffer.old ++ encoded (fields_of datagram.now) 128 }
-    ensures back { drop (at + size_in (fields_of datagram.now)) buffer.new ≡ drop (at + size_in (fields_of datagram.now)) buffer.old }
+    ensures { buffer.new ≡ laid_at at (encoded (fields_of datagram.now) 128) buffer.old }
 {
     let header = header_bytes(datagram);
-    let counter = datagram.counter;
-    let trailer = [(counter % 256) as u8, (counter / 256) as u8];
+    let trailer = datagram.counter.to_le_bytes();
     let body = at + DATAGRAM_HEADER_BYTES;
     paste_at(buffer, at, &header);
     paste_at(buffer, body, datagram.data);

@@ -13,6 +13,7 @@ pub enum WriteFault {
     ShortBuffer { bytes: usize },
 }
 
+// A number and a place as other faults have them, and no trait: nothing is generic over faults.
 impl WriteFault {
     // The rule that is broken.
     pub fn number(&self) -> u16

@@ -1,57 +1,47 @@
 -- The tests over a list of windows, and what they mean for the bits of the image. Assumes nothing.
 use Rattle.std.proofs.Common.{◌≡◌, ℕ, zero, suc, ◌*◌, ◌<◌, Bool, true, false, not, ◌||◌, List, [], ◌∷◌, ◌++◌, length, get_or, sym, refl, ap, ◌∙◌, ⊎_elim, arith}
-use Rattle.std.proofs.lemmas.Bool.{true≢false, both_ways, not-true, not-false, and_right, or_cases, or_parts, cases_Bool, cases_order}
+use Rattle.std.proofs.lemmas.Bool.{true≢false, both_ways, not-true, not-false, and_right, or_cases, or_parts, cases_Bool, cases_lt, cases_order, false_from_ne_true}
+use Rattle.std.proofs.lemmas.List.{get_or_default, get_or_past}
+use Rattle.std.proofs.lemmas.List.Folds.{list_any-append, list_any_at, Any-from_list_any}
 use Rattle.units.specs.Spans.{within, meet}
 use Rattle.units.proofs.Spans.{within_decides, meet_decides}
 use Rattle.plan.specs.declared.windows.MappedWindow.{MappedWindow}
 use Rattle.plan.specs.declared.stations.PlannedStation.{PlannedStation}
-use Rattle.plan.specs.Lists.{any}
+use Rattle.std.specs.List.{list_any}
 use Rattle.plan.specs.Windows.{bits_of, image_bits, no_window, any_leaves, meets_any, any_meet, pair_meets}
 use Rattle.plan.specs.Stations.{windows, all_windows, stations_meet}
 use Rattle.plan.specs.Meaning.{Owns, Exclusive}
 
 -- where an element passes, and that none does
 
-pub any_found : {X : Type 0} (p : X → Bool) (xs : List X) (d : X) → any p xs ≡ true → (i : ℕ) × (i < length xs) × (p (get_or xs i d) ≡ true)
-any_found p [] d e = absurd (true≢false (sym e))
-any_found p (x ∷ xs) d e =
-    ⊎_elim (λ h. (0, omega arith, h)) (λ h. let r = any_found p xs d h in (suc r.0, omega arith, r.2)) (or_cases (p x) (any p xs) e)
+any_found : {X : Type 0} (p : X → Bool) (xs : List X) (d : X) → list_any p xs ≡ true → (i : ℕ) × (i < length xs) × (p (get_or xs i d) ≡ true)
+any_found p xs d e =
+    let f = Any-from_list_any p xs e in
+    (f.0, f.2, ap p (get_or_default xs f.0 d f.1 f.2 ∙ f.3) ∙ f.4)
 
-pub any_none : {X : Type 0} (p : X → Bool) (xs : List X) (d : X) → any p xs ≡ false → p d ≡ false → (i : ℕ) → p (get_or xs i d) ≡ false
-any_none p [] d e h i = h
-any_none p (x ∷ xs) d e h zero = (or_parts (p x) (any p xs) e).0
-any_none p (x ∷ xs) d e h (suc i) = any_none p xs d (or_parts (p x) (any p xs) e).1 h i
+pub any_none : {X : Type 0} (p : X → Bool) (xs : List X) (d : X) → list_any p xs ≡ false → p d ≡ false → (i : ℕ) → p (get_or xs i d) ≡ false
+any_none p xs d e h i =
+    ⊎_elim (λ lt. false_from_ne_true _ (λ t. both_ways _ e (list_any_at p xs i d lt t))) (λ past. ap p (get_or_past xs i d past) ∙ h) (cases_lt i (length xs))
 
 -- lists joined
 
-or_assoc : (x y z : Bool) → (x || (y || z)) ≡ ((x || y) || z)
-or_assoc true y z = refl
-or_assoc false y z = refl
-
-pub any_append : {X : Type 0} (p : X → Bool) (xs ys : List X) → any p (xs ++ ys) ≡ (any p xs || any p ys)
-any_append p [] ys = refl
-any_append p (x ∷ xs) ys = ap (λ b. p x || b) (any_append p xs ys) ∙ or_assoc (p x) (any p xs) (any p ys)
-
 shuffled : (a b c d e : Bool) → ((a || b) || (c || (d || e))) ≡ ((a || c) || ((b || d) || e))
-shuffled true b c d e = refl
-shuffled false true true d e = refl
-shuffled false true false d e = refl
-shuffled false false c d e = refl
+shuffled a b c d e = grind arith
 
 pub pair_append : (xs ys : List MappedWindow) → pair_meets (xs ++ ys) ≡ (pair_meets xs || (any_meet xs ys || pair_meets ys))
 pair_append [] ys = refl
 pair_append (x ∷ xs) ys =
-    (λ i. any_append (λ v. meet (bits_of x.window) (bits_of v.window)) xs ys i || pair_append xs ys i) ∙ shuffled (meets_any x.window xs) (meets_any x.window ys) (pair_meets xs) (any_meet xs ys) (pair_meets ys)
+    (λ i. list_any-append (λ v. meet (bits_of x.window) (bits_of v.window)) xs ys i || pair_append xs ys i) ∙ shuffled (meets_any x.window xs) (meets_any x.window ys) (pair_meets xs) (any_meet xs ys) (pair_meets ys)
 
 pub windows-push : (ss : List PlannedStation) (s : PlannedStation) → all_windows (ss ++ s ∷ []) ≡ all_windows ss ++ windows s
 windows-push [] s = refl
 windows-push (t ∷ ts) s = ap (λ ws. windows t ++ ws) (windows-push ts s)
 
 -- the stations one by one, and all their windows at once
-pub met_windows : (ss : List PlannedStation) (s : PlannedStation) → any (λ t. stations_meet t s) ss ≡ any_meet (all_windows ss) (windows s)
+pub met_windows : (ss : List PlannedStation) (s : PlannedStation) → list_any (λ t. stations_meet t s) ss ≡ any_meet (all_windows ss) (windows s)
 met_windows [] s = refl
 met_windows (t ∷ ts) s =
-    ap (λ b. stations_meet t s || b) (met_windows ts s) ∙ sym (any_append (λ w. meets_any w.window (windows s)) (windows t) (all_windows ts))
+    ap (λ b. stations_meet t s || b) (met_windows ts s) ∙ sym (list_any-append (λ w. meets_any w.window (windows s)) (windows t) (all_windows ts))
 
 -- what the tests mean
 

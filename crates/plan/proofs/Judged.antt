@@ -1,11 +1,10 @@
 -- The verdict on a station refuses what breaks a rule, and nothing else. Assumes nothing.
-use Rattle.std.proofs.Common.{◌≡◌, ℕ, ◌+◌, ◌<◌, ◌≤◌, Bool, true, false, cond, not, ◌||◌, List, [], ◌∷◌, ◌++◌, length, is_some, Some, None, Option, sym, refl, ap, ◌∙◌, subst, arith}
-use Rattle.std.specs.Option.{option_map}
+use Rattle.std.proofs.Common.{◌≡◌, ℕ, ◌<◌, ◌≤◌, Bool, true, false, cond, not, ◌||◌, List, [], ◌∷◌, ◌++◌, length, is_some, None, nat_le, sym, refl, ap, ◌∙◌, subst, arith}
 use Rattle.std.proofs.lemmas.Bool.{not-false, or_parts, or_from, leb-false, lt-leb, not_from_true}
 use Rattle.std.proofs.lemmas.List.{length_push}
-use Rattle.plan.specs.declared.faults.StationField.TheVariants.{Outputs, Inputs}
+use Rattle.std.proofs.lemmas.List.Folds.{list_any-append}
 use Rattle.plan.specs.declared.stations.PlannedStation.{PlannedStation}
-use Rattle.plan.specs.Lists.{any, first_from, or_else, given}
+use Rattle.std.specs.List.{list_any}
 use Rattle.plan.specs.Limits.{max_stations, window_in_range, mailbox_in_range}
 use Rattle.plan.specs.Windows.{image_bits, any_leaves, any_meet, pair_meets}
 use Rattle.plan.specs.Stations.{windows, all_windows, stations_meet}
@@ -13,51 +12,8 @@ use Rattle.plan.specs.Verdict.{field_out_of_range, any_out_of_range, verdict}
 use Rattle.plan.specs.declared.plans.Plan.{Plan}
 use Rattle.plan.specs.Building.{image_bytes, stations_of}
 use Rattle.plan.specs.Meaning.{Sound}
-use Rattle.plan.proofs.Exclusive.{any_append, pair_append, windows-push, met_windows, exclusive, none_leaves, none_share}
-
--- answers in turn: there is none exactly if no part has one
-
-pub never : {X : Type 0} {x : X} → Some x ≡ None → ⊥
-never e = let z : ◌≡◌ {A = ℕ} 0 1 = cc in omega arith
-
-pub else_parts : {X : Type 0} (x y : Option X) → or_else x y ≡ None → (x ≡ None) × (y ≡ None)
-else_parts None y e = (refl, e)
-else_parts (Some x) y e = absurd (never e)
-
-else_from : {X : Type 0} (x y : Option X) → x ≡ None → y ≡ None → or_else x y ≡ None
-else_from x y p q = λ i. or_else (p i) (q i)
-
-given_parts : {X : Type 0} (b : Bool) (x : X) → given b x ≡ None → b ≡ false
-given_parts true x e = absurd (never e)
-given_parts false x e = refl
-
-given_from : {X : Type 0} (b : Bool) (x : X) → b ≡ false → given b x ≡ None
-given_from b x e = ap (λ t. given t x) e
-
-pub mapped_parts : {X Y : Type 0} (f : X → Y) (x : Option X) → option_map f x ≡ None → x ≡ None
-mapped_parts f None e = refl
-mapped_parts f (Some x) e = absurd (never e)
-
-first_step : (b r : Bool) (i : ℕ) (o : Option ℕ) → (o ≡ None → r ≡ false) → cond b (Some i) o ≡ None → (b || r) ≡ false
-first_step true r i o h e = absurd (never e)
-first_step false r i o h e = h e
-
-first_parts : {X : Type 0} (p : X → Bool) (i : ℕ) (xs : List X) → first_from i p xs ≡ None → any p xs ≡ false
-first_parts p i [] e = refl
-first_parts p i (x ∷ xs) e = first_step (p x) (any p xs) i (first_from (i + 1) p xs) (first_parts p (i + 1) xs) e
-
-first_none : {X : Type 0} (p : X → Bool) (i : ℕ) (xs : List X) → any p xs ≡ false → first_from i p xs ≡ None
-first_none p i [] e = refl
-first_none p i (x ∷ xs) e =
-    let h = or_parts (p x) (any p xs) e in
-    λ j. cond (h.0 j) (Some i) (first_none p (i + 1) xs h.1 j)
-
--- no field of a station is out of range
-in_range : (s : PlannedStation) → field_out_of_range s ≡ None → (window_in_range s.outputs ≡ true) × (window_in_range s.inputs ≡ true) × (mailbox_in_range s.mailbox ≡ true)
-in_range s e =
-    let p = else_parts (given (not (window_in_range s.outputs)) Outputs) _ e in
-    let q = else_parts (given (not (window_in_range s.inputs)) Inputs) _ p.1 in
-    (not-false _ (given_parts _ _ p.0), not-false _ (given_parts _ _ q.0), not-false _ (given_parts _ _ q.1))
+use Rattle.plan.proofs.Options.{none_from, is_some-option_or, is_some-then_some, is_some-option_map, is_some-position_from}
+use Rattle.plan.proofs.Exclusive.{pair_append, windows-push, met_windows, exclusive, none_leaves, none_share}
 
 -- what the plan keeps, said of its stations
 pub record Kept (bytes : ℕ) (ss : List PlannedStation) : Type 0 where
@@ -70,26 +26,33 @@ pub kept : (p : Plan) → Kept (image_bytes p) (stations_of p)
 kept p = record { few = p.few; fields = p.fields; inside = p.inside; apart = p.apart }
 
 module _ (bytes : ℕ) (ss : List PlannedStation) (s : PlannedStation) where
+  -- the rules that can forbid a station, in turn
+  forbids : is_some (verdict bytes ss s) ≡ (nat_le max_stations (length ss) || (is_some (field_out_of_range s) || (any_leaves (image_bits bytes) (windows s) || (list_any (λ t. stations_meet t s) ss || pair_meets (windows s)))))
+  forbids = simp (is_some-option_or, is_some-then_some, is_some-option_map, is_some-position_from)
+
+  out_of_range : is_some (field_out_of_range s) ≡ (not (window_in_range s.outputs) || (not (window_in_range s.inputs) || not (mailbox_in_range s.mailbox)))
+  out_of_range = simp (is_some-option_or, is_some-then_some)
+
   -- each part of a verdict that passes a station
   pub record Passed : Type 0 where
     pub room : length ss < max_stations
-    pub fields : field_out_of_range s ≡ None
+    pub fields : is_some (field_out_of_range s) ≡ false
     pub inside : any_leaves (image_bits bytes) (windows s) ≡ false
     pub met : any_meet (all_windows ss) (windows s) ≡ false
     pub own : pair_meets (windows s) ≡ false
 
   parts : verdict bytes ss s ≡ None → Passed
   parts e =
-      let a = else_parts _ _ e in
-      let b = else_parts _ _ a.1 in
-      let c = else_parts _ _ b.1 in
-      let d = else_parts _ _ c.1 in
+      let a = or_parts (nat_le max_stations (length ss)) _ (sym forbids ∙ ap is_some e) in
+      let b = or_parts (is_some (field_out_of_range s)) _ a.1 in
+      let c = or_parts (any_leaves (image_bits bytes) (windows s)) _ b.1 in
+      let d = or_parts (list_any (λ t. stations_meet t s) ss) _ c.1 in
       record {
-        room = leb-false max_stations (length ss) (given_parts _ _ a.0);
-        fields = mapped_parts _ _ b.0;
-        inside = given_parts _ _ c.0;
-        met = sym (met_windows ss s) ∙ first_parts (λ t. stations_meet t s) 0 ss (mapped_parts _ _ d.0);
-        own = given_parts _ _ d.1;
+        room = leb-false max_stations (length ss) a.0;
+        fields = b.0;
+        inside = c.0;
+        met = sym (met_windows ss s) ∙ d.0;
+        own = d.1;
       }
 
   -- a station that the verdict passes keeps the plan as it has to be
@@ -98,8 +61,8 @@ module _ (bytes : ℕ) (ss : List PlannedStation) (s : PlannedStation) where
       let p : Passed = parts e in
       record {
         few = omega (arith, length_push ss s);
-        fields = any_append (λ t. is_some (field_out_of_range t)) ss (s ∷ []) ∙ or_from _ _ kept.fields (or_from _ _ (ap is_some p.fields) refl);
-        inside = ap (any_leaves (image_bits bytes)) (windows-push ss s) ∙ any_append _ (all_windows ss) (windows s) ∙ or_from _ _ kept.inside p.inside;
+        fields = list_any-append (λ t. is_some (field_out_of_range t)) ss (s ∷ []) ∙ or_from _ _ kept.fields (or_from _ _ p.fields refl);
+        inside = ap (any_leaves (image_bits bytes)) (windows-push ss s) ∙ list_any-append _ (all_windows ss) (windows s) ∙ or_from _ _ kept.inside p.inside;
         apart = ap pair_meets (windows-push ss s) ∙ pair_append (all_windows ss) (windows s) ∙ or_from _ _ kept.apart (or_from _ _ p.met p.own);
       }
 
@@ -108,12 +71,13 @@ module _ (bytes : ℕ) (ss : List PlannedStation) (s : PlannedStation) where
   sound kept e =
       let p : Passed = parts e in
       let after = passed kept e in
-      let f = in_range s p.fields in
+      let f = or_parts (not (window_in_range s.outputs)) _ (sym out_of_range ∙ p.fields) in
+      let g = or_parts (not (window_in_range s.inputs)) _ f.1 in
       record {
         room = p.room;
-        outputs = f.0;
-        inputs = f.1;
-        mailbox = f.2;
+        outputs = not-false _ f.0;
+        inputs = not-false _ g.0;
+        mailbox = not-false _ g.1;
         exclusive = exclusive bytes (all_windows (ss ++ s ∷ [])) after.inside after.apart;
       }
 
@@ -121,14 +85,11 @@ module _ (bytes : ℕ) (ss : List PlannedStation) (s : PlannedStation) where
   pub complete : Sound bytes ss s → verdict bytes ss s ≡ None
   complete h =
       let ws = all_windows (ss ++ s ∷ []) in
-      let leaves = or_parts (any_leaves (image_bits bytes) (all_windows ss)) _ (sym (ap (any_leaves (image_bits bytes)) (windows-push ss s) ∙ any_append _ (all_windows ss) (windows s)) ∙ none_leaves bytes ws h.exclusive) in
+      let leaves = or_parts (any_leaves (image_bits bytes) (all_windows ss)) _ (sym (ap (any_leaves (image_bits bytes)) (windows-push ss s) ∙ list_any-append _ (all_windows ss) (windows s)) ∙ none_leaves bytes ws h.exclusive) in
       let shares = or_parts (pair_meets (all_windows ss)) _ (sym (ap pair_meets (windows-push ss s) ∙ pair_append (all_windows ss) (windows s)) ∙ none_share bytes ws h.exclusive) in
       let own = or_parts (any_meet (all_windows ss) (windows s)) _ shares.1 in
-      else_from _ _ (given_from _ _ (lt-leb max_stations (length ss) h.room))
-      (else_from _ _ (ap (option_map _) (else_from _ _ (given_from _ _ (not_from_true _ h.outputs)) (else_from _ _ (given_from _ _ (not_from_true _ h.inputs)) (given_from _ _ (not_from_true _ h.mailbox)))))
-      (else_from _ _ (given_from _ _ leaves.1)
-      (else_from _ _ (ap (option_map _) (first_none (λ t. stations_meet t s) 0 ss (met_windows ss s ∙ own.0)))
-      (given_from _ _ own.1))))
+      let fields = out_of_range ∙ or_from _ _ (not_from_true _ h.outputs) (or_from _ _ (not_from_true _ h.inputs) (not_from_true _ h.mailbox)) in
+      none_from _ (forbids ∙ or_from _ _ (lt-leb max_stations (length ss) h.room) (or_from _ _ fields (or_from _ _ leaves.1 (or_from _ _ (met_windows ss s ∙ own.0) own.1))))
 
   -- so does what a push leaves, whether or not there was memory
   pub pushed : (after : List PlannedStation) (b : Bool) → Kept bytes ss → verdict bytes ss s ≡ None → after ≡ cond b (ss ++ s ∷ []) ss → Kept bytes after

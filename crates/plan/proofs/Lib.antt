@@ -1,4 +1,4 @@
-pub mod Loops
 pub mod Exclusive
+pub mod Options
 pub mod Judged
 pub mod Owned

@@ -1,4 +1,3 @@
-pub mod Lists
 pub mod Limits
 pub mod Windows
 pub mod Stations

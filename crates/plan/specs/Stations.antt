@@ -6,6 +6,16 @@ use Rattle.plan.specs.declared.windows.MappedWindow.{MappedWindow}
 use Rattle.plan.specs.declared.stations.PlannedStation.{PlannedStation}
 use Rattle.plan.specs.Windows.{any_meet}
 
+-- what a station says
+abbrev pub outputs_of : PlannedStation → Window
+outputs_of s = s.outputs
+
+abbrev pub inputs_of : PlannedStation → Window
+inputs_of s = s.inputs
+
+abbrev pub mailbox_of : PlannedStation → ℕ
+mailbox_of s = s.mailbox
+
 -- a station with no window and no mailbox, and one with another field
 abbrev pub bare : PlannedStation
 bare = record { outputs = record { first = record { 0 = 0 }; bits = 0 }; inputs = record { first = record { 0 = 0 }; bits = 0 }; mailbox = 0 }

@@ -1,10 +1,16 @@
 -- Windows, and the bits of the image that they have. Assumes nothing.
 use Rattle.std.specs.Prelude.{ℕ, ◌+◌, ◌-◌, ◌*◌, min, max, Bool, false, not, ◌||◌, List, [], ◌∷◌}
-use Rattle.units.specs.Spans.{Range, within, meet}
-use Rattle.plan.specs.Lists.{any}
+use Rattle.std.specs.List.{list_any}
+use Rattle.units.specs.declared.ImageBit.{ImageBit}
+use Rattle.units.specs.declared.Span.{Span}
+use Rattle.units.specs.Spans.{Range, spanned, within, meet}
 use Rattle.plan.specs.declared.windows.Window.{Window}
 use Rattle.plan.specs.declared.windows.Direction.TheVariants.{Output}
 use Rattle.plan.specs.declared.windows.MappedWindow.{MappedWindow}
+
+-- the bits of the image in a span
+abbrev pub range_of : Span ImageBit → Range
+range_of span = spanned (λ bit. bit.0) span
 
 -- the bits of the image that a window has
 abbrev pub bits_of : Window → Range
@@ -27,15 +33,15 @@ no_window = record { direction = Output; window = record { first = record { 0 = 
 
 -- some window leaves the image
 abbrev pub any_leaves : Range → List MappedWindow → Bool
-any_leaves image ws = any (λ w. not (within (bits_of w.window) image)) ws
+any_leaves image ws = list_any (λ w. not (within (bits_of w.window) image)) ws
 
 -- a window shares a bit with one of the others
 abbrev pub meets_any : Window → List MappedWindow → Bool
-meets_any w vs = any (λ v. meet (bits_of w) (bits_of v.window)) vs
+meets_any w vs = list_any (λ v. meet (bits_of w) (bits_of v.window)) vs
 
 -- a window of the one list shares a bit with a window of the other
 abbrev pub any_meet : List MappedWindow → List MappedWindow → Bool
-any_meet ws vs = any (λ w. meets_any w.window vs) ws
+any_meet ws vs = list_any (λ w. meets_any w.window vs) ws
 
 -- two windows of the list share a bit
 abbrev pub pair_meets : List MappedWindow → Bool

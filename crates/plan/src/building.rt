@@ -1,9 +1,9 @@
 // Making a plan, adding to it, and what it holds.
 ghost use Rattle.std.specs.Prelude.{◌≡◌, ◌≤◌, true, false, length, MatchResult};
-ghost use Rattle.units.specs.Spans.{spanned};
+ghost use Rattle.std.specs.Result.{result_err};
 ghost use Rattle.plan.specs.declared.faults.PlanError.TheVariants.{Memory};
 ghost use Rattle.plan.specs.Limits.{max_stations, image_in_range};
-ghost use Rattle.plan.specs.Windows.{image_bits};
+ghost use Rattle.plan.specs.Windows.{image_bits, range_of};
 ghost use Rattle.plan.specs.Stations.{all_windows};
 ghost use Rattle.plan.specs.Verdict.{any_out_of_range, empty_verdict};
 ghost use Rattle.plan.specs.Meaning.{Exclusive, Sound};
@@ -35,9 +35,7 @@ impl Plan {
         ensures done { Added self.old station result self.new }
         ensures exact { MatchResult result (λ _. Sound (image_bytes self.old) (stations_of self.old) station) (λ e. Sound (image_bytes self.old) (stations_of self.old) station → e ≡ Memory) }
     {
-        if let Some(fault) = self.fault_of(&station) {
-            return Err(PlanError::Refused(fault));
-        }
+        self.check(&station)?;
         self.stations.push(station)?;
         Ok(())
     }
@@ -51,7 +49,7 @@ impl Plan {
 
     // All bits of the image.
     pub fn image(&self) -> Span<ImageBit>
-        ensures { spanned (λ unit. unit.0) result ≡ image_bits (image_bytes self.now) }
+        ensures { range_of result ≡ image_bits (image_bytes self.now) }
     {
         Span {
             first: ImageBit(0),
@@ -69,13 +67,13 @@ impl Plan {
         self.stations.as_slice()
     }
 
-    // The fault of a plan with no station.
-    pub fn fault_if_empty(&self) -> Option<PlanFault>
-        ensures { result ≡ empty_verdict (stations_of self.now) }
+    // A plan that is to be used has a station.
+    pub fn check_not_empty(&self) -> Result<(), PlanFault>
+        ensures { result_err result ≡ empty_verdict (stations_of self.now) }
     {
         if self.stations.is_empty() {
-            return Some(PlanFault::NoStations);
+            return Err(PlanFault::NoStations);
         }
-        None
+        Ok(())
     }
 }

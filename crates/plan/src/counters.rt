@@ -1,22 +1,18 @@
 // The working counter that a plan expects.
 ghost use Rattle.std.specs.Prelude.{◌≡◌, ◌≤◌};
-ghost use Rattle.plan.specs.Counter.{has_inputs, has_outputs, weight, expected_counter};
+ghost use Rattle.plan.specs.Counter.{has_bits, weight, expected_counter};
 ghost use Rattle.plan.specs.Building.{stations_of};
 
 use crate::plans::Plan;
 use crate::stations::PlannedStation;
+use crate::windows::Direction;
 
 impl PlannedStation {
-    pub(crate) fn has_inputs(&self) -> bool
-        ensures { result ≡ has_inputs self.now }
+    // Whether one of its windows of that direction has bits.
+    fn has_bits(&self, direction: Direction) -> bool
+        ensures { result ≡ has_bits direction self.now }
     {
-        self.inputs().bits > 0
-    }
-
-    pub(crate) fn has_outputs(&self) -> bool
-        ensures { result ≡ has_outputs self.now }
-    {
-        self.outputs().bits > 0
+        self.windows().iter().any(|mapped| mapped.direction == direction && mapped.window.bits > 0)
     }
 
     // What it adds to the working counter of an exchange, when it is in SafeOp or Op.
@@ -24,9 +20,7 @@ impl PlannedStation {
         ensures value { result ≡ weight self.now }
         ensures bound { result ≤ 3 }
     {
-        let read = if self.has_inputs() { 1 } else { 0 };
-        let written = if self.has_outputs() { 2 } else { 0 };
-        read + written
+        u16::from(self.has_bits(Direction::Input)) + 2 * u16::from(self.has_bits(Direction::Output))
     }
 }
 
@@ -35,6 +29,7 @@ impl Plan {
     pub fn expected_counter(&self) -> u16
         ensures { result ≡ expected_counter (stations_of self.now) }
     {
+        // A loop: the sum is taken over the planned stations themselves.
         let mut sum = 0;
         for station in self.stations.iter() {
             sum += station.weight();

@@ -41,16 +41,17 @@ pub enum PlanError {
     Memory,
 }
 
+// A number and a place as other faults have them, and no trait: nothing is generic over faults.
 impl PlanFault {
     // The rule that is broken.
     pub fn number(&self) -> u16
         ensures { result ≡ number self.now }
     {
         match *self {
-            PlanFault::ImageLength => 6,
-            PlanFault::NoStations => 6,
-            PlanFault::TooManyStations { .. } => 6,
-            PlanFault::FieldOutOfRange { .. } => 6,
+            PlanFault::ImageLength
+            | PlanFault::NoStations
+            | PlanFault::TooManyStations { .. }
+            | PlanFault::FieldOutOfRange { .. } => 6,
             PlanFault::WindowConflict { .. } => 7,
         }
     }
@@ -60,10 +61,9 @@ impl PlanFault {
         ensures { result ≡ place self.now }
     {
         match *self {
-            PlanFault::ImageLength => 0,
-            PlanFault::NoStations => 0,
-            PlanFault::TooManyStations { position } => position.0,
-            PlanFault::FieldOutOfRange { position, .. } => position.0,
+            PlanFault::ImageLength | PlanFault::NoStations => 0,
+            PlanFault::TooManyStations { position } | PlanFault::FieldOutOfRange { position, .. } =>
+                position.0,
             PlanFault::WindowConflict { later, .. } => later.0,
         }
     }

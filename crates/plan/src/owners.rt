@@ -18,12 +18,10 @@ pub struct Owner {
 fn direction_at(windows: &[MappedWindow], bit: ImageBit) -> Option<Direction>
     ensures { result ≡ direction_at windows.now bit.0 }
 {
-    for mapped in windows {
-        if mapped.window.has(bit) {
-            return Some(mapped.direction);
-        }
-    }
-    None
+    windows
+        .iter()
+        .find(|mapped| mapped.window.has(bit))
+        .map(|mapped| mapped.direction)
 }
 
 impl Plan {
@@ -32,27 +30,20 @@ impl Plan {
         ensures value { result ≡ owner_from 0 (stations_of self.now) bit.0 }
         ensures means { OneOwner (stations_of self.now) bit.0 result }
     {
-        for (i, station) in self.stations.iter().enumerate() {
-            if let Some(direction) = direction_at(&station.windows(), bit) {
-                return Some(Owner {
-                    position: LinePosition(i as u16),
-                    direction,
-                });
-            }
-        }
-        None
+        self.stations.iter().enumerate().find_map(|(i, station)| {
+            direction_at(&station.windows(), bit).map(|direction| Owner {
+                position: LinePosition(i as u16),
+                direction,
+            })
+        })
     }
 
     // How many bits of the image belong to no window.
     pub fn free_bits(&self) -> u32
         ensures { result ≡ free_below (stations_of self.now) (8 * image_bytes self.now) }
     {
-        let mut free = 0;
-        for bit in 0..8 * self.image_bytes() {
-            if self.owner(ImageBit(bit)).is_none() {
-                free += 1;
-            }
-        }
-        free
+        (0..8 * self.image_bytes())
+            .filter(|bit| self.owner(ImageBit(*bit)).is_none())
+            .count() as u32
     }
 }

@@ -1,6 +1,6 @@
 // A planned station: what it reads and writes of the image, and its mailbox.
 ghost use Rattle.std.specs.Prelude.{◌≡◌};
-ghost use Rattle.plan.specs.Stations.{bare, with_outputs, with_inputs, with_mailbox};
+ghost use Rattle.plan.specs.Stations.{outputs_of, inputs_of, mailbox_of, bare, with_outputs, with_inputs, with_mailbox};
 
 use crate::windows::Window;
 
@@ -8,6 +8,7 @@ use crate::windows::Window;
 pub struct PlannedStation {
     pub(crate) outputs: Window,
     pub(crate) inputs: Window,
+    // A number and no option: a plan's text may say 0, and the rules judge it.
     pub(crate) mailbox: u32,
 }
 
@@ -23,6 +24,7 @@ impl PlannedStation {
         }
     }
 
+    // A method for each field: a direction as a parameter would only move the two names into a match.
     pub fn with_outputs(self, window: Window) -> PlannedStation
         ensures { result ≡ with_outputs self window }
     {
@@ -52,19 +54,19 @@ impl PlannedStation {
     }
 
     pub fn outputs(&self) -> Window
-        ensures { result ≡ self.now.outputs }
+        ensures { result ≡ outputs_of self.now }
     {
         self.outputs
     }
 
     pub fn inputs(&self) -> Window
-        ensures { result ≡ self.now.inputs }
+        ensures { result ≡ inputs_of self.now }
     {
         self.inputs
     }
 
     pub fn mailbox(&self) -> u32
-        ensures { result ≡ self.now.mailbox }
+        ensures { result ≡ mailbox_of self.now }
     {
         self.mailbox
     }

@@ -1,5 +1,6 @@
 // What forbids a station, in the order in which it is looked at.
 ghost use Rattle.std.specs.Prelude.{◌≡◌, ◌<◌, length, IfSome};
+ghost use Rattle.std.specs.Result.{result_err};
 ghost use Rattle.plan.specs.Verdict.{field_out_of_range, verdict, first_met};
 ghost use Rattle.plan.specs.Building.{image_bytes, stations_of};
 
@@ -33,49 +34,39 @@ fn first_met(stations: &[PlannedStation], new: &PlannedStation) -> Option<usize>
     ensures value { result ≡ first_met stations.now new.now }
     ensures within { IfSome result (λ i. i < length stations.now) }
 {
-    for (i, earlier) in stations.iter().enumerate() {
-        if earlier.meets(new) {
-            return Some(i);
-        }
-    }
-    None
+    stations.iter().position(|earlier| earlier.meets(new))
 }
 
 impl Plan {
-    // What forbids a station, if anything does.
-    pub(crate) fn fault_of(&self, station: &PlannedStation) -> Option<PlanFault>
-        ensures { result ≡ verdict (image_bytes self.now) (stations_of self.now) station.now }
+    // The first rule that the station breaks, held against the image, the earlier stations and itself.
+    pub(crate) fn check(&self, station: &PlannedStation) -> Result<(), PlanFault>
+        ensures { result_err result ≡ verdict (image_bytes self.now) (stations_of self.now) station.now }
     {
         let count = self.stations.len();
         let here = LinePosition(count as u16);
+        let conflict = |earlier| PlanFault::WindowConflict {
+            earlier,
+            later: here,
+        };
         if count >= MAX_STATIONS {
-            return Some(PlanFault::TooManyStations { position: here });
+            return Err(PlanFault::TooManyStations { position: here });
         }
         if let Some(field) = station.field_out_of_range() {
-            return Some(PlanFault::FieldOutOfRange {
+            return Err(PlanFault::FieldOutOfRange {
                 position: here,
                 field,
             });
         }
         let windows = station.windows();
         if any_leaves(&windows, &self.image()) {
-            return Some(PlanFault::WindowConflict {
-                earlier: here,
-                later: here,
-            });
+            return Err(conflict(here));
         }
         if let Some(i) = first_met(self.stations.as_slice(), station) {
-            return Some(PlanFault::WindowConflict {
-                earlier: LinePosition(i as u16),
-                later: here,
-            });
+            return Err(conflict(LinePosition(i as u16)));
         }
         if pair_meets(&windows) {
-            return Some(PlanFault::WindowConflict {
-                earlier: here,
-                later: here,
-            });
+            return Err(conflict(here));
         }
-        None
+        Ok(())
     }
 }

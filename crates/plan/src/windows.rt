@@ -1,14 +1,16 @@
 // Windows: the bits of the image that a station reads or writes.
 ghost use Rattle.std.specs.Prelude.{◌≡◌, not};
-ghost use Rattle.units.specs.Spans.{spanned, has, within, meet};
+ghost use Rattle.units.specs.Spans.{has, within, meet};
 ghost use Rattle.plan.specs.Limits.{window_in_range};
 ghost use Rattle.plan.specs.Meaning.{Shared};
-ghost use Rattle.plan.specs.Windows.{bits_of, common, any_leaves, meets_any, any_meet, pair_meets};
+ghost use Rattle.plan.specs.Windows.{range_of, bits_of, common, any_leaves, meets_any, any_meet, pair_meets};
 
 use crate::limits::MAX_WINDOW_BITS;
 use units::{Countable, ImageBit, Span};
 
 // So many bits from the first on; a window of no bits has first bit 0.
+// Numbers and no option: a plan's text may say no bits from any bit on, and the rules judge it.
+// A type of its own and no span: these rules, and what a plan's text says, are of windows alone.
 #[derive(Clone, Copy)]
 pub struct Window {
     pub first: ImageBit,
@@ -16,7 +18,7 @@ pub struct Window {
 }
 
 // Seen from the master: a station takes its outputs from the image and puts its inputs into it.
-#[derive(Clone, Copy)]
+#[derive(Clone, Copy, PartialEq, Eq)]
 pub enum Direction {
     Output,
     Input,
@@ -35,7 +37,7 @@ impl Window {
     };
 
     pub(crate) fn span(&self) -> Span<ImageBit>
-        ensures { spanned (λ unit. unit.0) result ≡ bits_of self.now }
+        ensures { range_of result ≡ bits_of self.now }
     {
         Span {
             first: self.first,
@@ -58,7 +60,7 @@ impl Window {
 
     // Whether one of its bits is no bit of the image.
     pub fn leaves(&self, image: &Span<ImageBit>) -> bool
-        ensures { result ≡ not (within (bits_of self.now) (spanned (λ unit. unit.0) image.now)) }
+        ensures { result ≡ not (within (bits_of self.now) (range_of image.now)) }
     {
         !self.span().within(image)
     }
@@ -89,47 +91,30 @@ impl Window {
     fn meets_any(&self, others: &[MappedWindow]) -> bool
         ensures { result ≡ meets_any self.now others.now }
     {
-        for other in others {
-            if self.meets(&other.window) {
-                return true;
-            }
-        }
-        false
+        others.iter().any(|other| self.meets(&other.window))
     }
 }
 
 // Whether one of the windows leaves the image.
 pub(crate) fn any_leaves(windows: &[MappedWindow], image: &Span<ImageBit>) -> bool
-    ensures { result ≡ any_leaves (spanned (λ unit. unit.0) image.now) windows.now }
+    ensures { result ≡ any_leaves (range_of image.now) windows.now }
 {
-    for mapped in windows {
-        if mapped.window.leaves(image) {
-            return true;
-        }
-    }
-    false
+    windows.iter().any(|mapped| mapped.window.leaves(image))
 }
 
 // Whether a window of the one list shares a bit with a window of the other.
 pub(crate) fn any_meet(windows: &[MappedWindow], others: &[MappedWindow]) -> bool
     ensures { result ≡ any_meet windows.now others.now }
 {
-    for mapped in windows {
-        if mapped.window.meets_any(others) {
-            return true;
-        }
-    }
-    false
+    windows.iter().any(|mapped| mapped.window.meets_any(others))
 }
 
 // Whether two windows of the list share a bit.
 pub(crate) fn pair_meets(windows: &[MappedWindow]) -> bool
     ensures { result ≡ pair_meets windows.now }
 {
-    for (i, mapped) in windows.iter().enumerate() {
-        if mapped.window.meets_any(&windows[i + 1..]) {
-            return true;
-        }
+    match windows {
+        [] => false,
+        [mapped, others @ ..] => mapped.window.meets_any(others) || pair_meets(others),
     }
-    false
 }

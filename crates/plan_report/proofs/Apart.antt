@@ -1,31 +1,27 @@
 -- No two owners have one sign: a test that is computed over all signs, and what it says of two places. Assumes nothing.
 use Rattle.std.proofs.Common.{◌≡◌, ℕ, zero, suc, ◌+◌, ◌<◌, Bool, true, not, ◌&&◌, eqb, List, [], ◌∷◌, ◌++◌, length, get_or, Some, None, Option, sym, refl, ap, ◌∙◌, arith}
 use Rattle.std.proofs.lemmas.List.{get_or_append_left, get_or-append-add}
-use Rattle.std.proofs.lemmas.Bool.{and_parts, not-true, eqb-false}
+use Rattle.std.specs.List.{list_any}
+use Rattle.std.proofs.lemmas.List.Folds.{list_any_at}
+use Rattle.std.proofs.lemmas.Bool.{and_parts, both_ways, not-true, eq-eqb}
 use Rattle.plan.specs.declared.windows.Direction.{Direction}
 use Rattle.plan.specs.declared.windows.Direction.TheVariants.{Output, Input}
 use Rattle.plan.specs.declared.owners.Owner.{Owner}
 use Rattle.plan_report.specs.Signs.{signs, sign, Drawn}
 
-abbrev lacks : ℕ → List ℕ → Bool
-lacks x [] = true
-lacks x (y ∷ ys) = not (eqb x y) && lacks x ys
-
 abbrev distinct : List ℕ → Bool
 distinct [] = true
-distinct (x ∷ xs) = lacks x xs && distinct xs
+distinct (x ∷ xs) = not (list_any (eqb x) xs) && distinct xs
 
-lacks_at : (x : ℕ) (xs : List ℕ) (i d : ℕ) → lacks x xs ≡ true → i < length xs → x ≡ get_or xs i d → ⊥
-lacks_at x [] i d t h e = omega arith
-lacks_at x (y ∷ ys) zero d t h e = eqb-false x y (not-true _ (and_parts (not (eqb x y)) (lacks x ys) t).0) e
-lacks_at x (y ∷ ys) (suc i) d t h e = lacks_at x ys i d (and_parts (not (eqb x y)) (lacks x ys) t).1 (omega arith) e
+lacks_at : (x : ℕ) (xs : List ℕ) (i d : ℕ) → not (list_any (eqb x) xs) ≡ true → i < length xs → x ≡ get_or xs i d → ⊥
+lacks_at x xs i d t h e = both_ways _ (not-true _ t) (list_any_at (eqb x) xs i d h (eq-eqb x _ e))
 
 one_place : (xs : List ℕ) (i j d : ℕ) → distinct xs ≡ true → i < length xs → j < length xs → get_or xs i d ≡ get_or xs j d → i ≡ j
 one_place [] i j d t h k e = absurd (omega arith)
 one_place (x ∷ xs) zero zero d t h k e = refl
-one_place (x ∷ xs) zero (suc j) d t h k e = absurd (lacks_at x xs j d (and_parts (lacks x xs) (distinct xs) t).0 (omega arith) e)
-one_place (x ∷ xs) (suc i) zero d t h k e = absurd (lacks_at x xs i d (and_parts (lacks x xs) (distinct xs) t).0 (omega arith) (sym e))
-one_place (x ∷ xs) (suc i) (suc j) d t h k e = ap suc (one_place xs i j d (and_parts (lacks x xs) (distinct xs) t).1 (omega arith) (omega arith) e)
+one_place (x ∷ xs) zero (suc j) d t h k e = absurd (lacks_at x xs j d (and_parts (not (list_any (eqb x) xs)) (distinct xs) t).0 (omega arith) e)
+one_place (x ∷ xs) (suc i) zero d t h k e = absurd (lacks_at x xs i d (and_parts (not (list_any (eqb x) xs)) (distinct xs) t).0 (omega arith) (sym e))
+one_place (x ∷ xs) (suc i) (suc j) d t h k e = ap suc (one_place xs i j d (and_parts (not (list_any (eqb x) xs)) (distinct xs) t).1 (omega arith) (omega arith) e)
 
 -- all signs in a row: of a free bit, of outputs, of inputs
 abbrev row : List ℕ

@@ -1,8 +1,8 @@
 // What is said of a plan that is accepted.
 use crate::pictures::Picture;
-use crate::places::{Mapped, Place};
+use crate::places::{Mapped, Place, Sited};
 use crate::signs::sign_of;
-use plan::{Owner, PlannedStation};
+use plan::Owner;
 use plan_text::NamedPlan;
 use std::fmt;
 use units::LinePosition;
@@ -12,26 +12,29 @@ pub struct Accepted<'a, 'b> {
     pub named: &'b NamedPlan<'a>,
 }
 
-fn show_station<W: fmt::Write>(
-    place: Place<'_>,
-    station: &PlannedStation,
-    f: &mut fmt::Formatter<W>,
-) -> fmt::Result {
-    write!(f, "{place}:")?;
-    for mapped in station.windows() {
+// The windows of a station with their signs, and its mailbox.
+#[derive(Clone, Copy)]
+struct Described<'a, 'b>(Sited<'a, 'b>);
+
+impl fmt::Display for Described<'_, '_> {
+    fn fmt<W: fmt::Write>(&self, f: &mut fmt::Formatter<W>) -> fmt::Result {
+        let Sited { place, station } = self.0;
         let position = LinePosition(u16::try_from(place.position).unwrap_or(u16::MAX));
-        let sign = sign_of(Some(Owner {
-            position,
-            direction: mapped.direction,
-        }));
-        if mapped.window.bits > 0 {
-            let window = Mapped(mapped);
-            write!(f, " {window} as {sign},")?;
+        write!(f, "{place}:")?;
+        for mapped in station.windows() {
+            if mapped.window.bits > 0 {
+                let window = Mapped(mapped);
+                let sign = sign_of(Some(Owner {
+                    position,
+                    direction: mapped.direction,
+                }));
+                write!(f, " {window} as {sign},")?;
+            }
         }
-    }
-    match station.mailbox() {
-        0 => f.write_str(" no mailbox\n"),
-        bytes => writeln!(f, " mailbox {bytes} bytes"),
+        match station.mailbox() {
+            0 => f.write_str(" no mailbox"),
+            bytes => write!(f, " mailbox {bytes} bytes"),
+        }
     }
 }
 
@@ -39,8 +42,9 @@ impl fmt::Display for Accepted<'_, '_> {
     fn fmt<W: fmt::Write>(&self, f: &mut fmt::Formatter<W>) -> fmt::Result {
         let plan = &self.named.plan;
         for (position, station) in plan.stations().iter().enumerate() {
-            let name = self.named.names.get(position).copied().unwrap_or(None);
-            show_station(Place { position, name }, station, f)?;
+            let place = Place::at(self.named, position);
+            let described = Described(Sited { place, station });
+            writeln!(f, "{described}")?;
         }
         let counter = plan.expected_counter();
         let free = plan.free_bits();

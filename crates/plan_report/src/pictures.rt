@@ -14,7 +14,7 @@ pub struct Picture<'a> {
 }
 
 impl Picture<'_> {
-    // The eight signs of a byte.
+    // The eight signs of a byte. This and the next write a part of the one picture.
     fn byte<W: fmt::Write>(&self, byte: u32, f: &mut fmt::Formatter<W>) -> fmt::Result {
         f.write_char(' ')?;
         for bit in 0..8 {
@@ -35,15 +35,14 @@ impl Picture<'_> {
 
     // Whether no window has a bit of these bytes.
     fn all_free(&self, first: u32, end: u32) -> bool {
-        for bit in first.saturating_mul(8)..end.saturating_mul(8) {
-            if self.plan.owner(ImageBit(bit)).is_some() {
-                return false;
-            }
-        }
-        true
+        (first.saturating_mul(8)..end.saturating_mul(8)).all(|bit| self
+            .plan
+            .owner(ImageBit(bit))
+            .is_none())
     }
 }
 
+// Bytes that no window has, as a part of the picture.
 fn free_rows<W: fmt::Write>(first: u32, end: u32, f: &mut fmt::Formatter<W>) -> fmt::Result {
     if first >= end {
         return Ok(());

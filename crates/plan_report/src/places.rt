@@ -1,5 +1,6 @@
 // Windows and stations as they are written.
-use plan::{Direction, MappedWindow, Window};
+use plan::{Direction, MappedWindow, PlannedStation, Window};
+use plan_text::NamedPlan;
 use std::fmt;
 
 // A window by its first and last bit.
@@ -38,20 +39,51 @@ pub struct Place<'a> {
     pub name: Option<&'a [u8]>,
 }
 
-fn show_name<W: fmt::Write>(name: &[u8], f: &mut fmt::Formatter<W>) -> fmt::Result {
-    match std::str::from_utf8(name) {
-        Ok(text) => write!(f, " ({text})"),
-        Err(_) => f.write_str(" (its name is no UTF-8)"),
+impl<'a> Place<'a> {
+    // A position of a plan, with the name that the plan's text gives the station there.
+    pub(crate) fn at(named: &NamedPlan<'a>, position: usize) -> Place<'a> {
+        Place {
+            position,
+            name: named.name(position),
+        }
+    }
+}
+
+// A name in brackets.
+#[derive(Clone, Copy)]
+struct Name<'a>(&'a [u8]);
+
+impl fmt::Display for Name<'_> {
+    fn fmt<W: fmt::Write>(&self, f: &mut fmt::Formatter<W>) -> fmt::Result {
+        match std::str::from_utf8(self.0) {
+            Ok(text) => write!(f, "({text})"),
+            Err(_) => f.write_str("(its name is no UTF-8)"),
+        }
     }
 }
 
 impl fmt::Display for Place<'_> {
     fn fmt<W: fmt::Write>(&self, f: &mut fmt::Formatter<W>) -> fmt::Result {
         let position = self.position;
-        write!(f, "station {position}")?;
-        match self.name {
-            Some(name) => show_name(name, f),
-            None => Ok(()),
+        match self.name.map(Name) {
+            Some(name) => write!(f, "station {position} {name}"),
+            None => write!(f, "station {position}"),
         }
+    }
+}
+
+// A planned station and its place.
+#[derive(Clone, Copy)]
+pub(crate) struct Sited<'a, 'b> {
+    pub place: Place<'a>,
+    pub station: &'b PlannedStation,
+}
+
+impl<'a, 'b> Sited<'a, 'b> {
+    // The station of a plan at that position.
+    pub fn at(named: &'b NamedPlan<'a>, position: usize) -> Option<Sited<'a, 'b>> {
+        let station = named.plan.stations().get(position)?;
+        let place = Place::at(named, position);
+        Some(Sited { place, station })
     }
 }

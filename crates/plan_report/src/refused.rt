@@ -1,11 +1,11 @@
 // Why a plan is refused, in words that help to mend it.
-use crate::conflicts::show_conflict;
-use crate::places::Place;
+use crate::conflicts::Conflict;
+use crate::places::{Place, Sited};
 use plan::limits::{
     MAX_IMAGE_BYTES, MAX_MAILBOX_BYTES, MAX_STATIONS, MAX_WINDOW_BITS, MIN_IMAGE_BYTES,
     MIN_MAILBOX_BYTES,
 };
-use plan::{PlanFault, PlannedStation, StationField, Window};
+use plan::{PlanFault, StationField, Window};
 use plan_text::{NamedPlan, ReadError, StationLine};
 use std::fmt;
 
@@ -14,79 +14,103 @@ pub struct Rejected<'a, 'b> {
     pub error: &'b ReadError<'a>,
 }
 
-// The number of the broken rule and the place.
-fn show_rule<W: fmt::Write>(fault: PlanFault, f: &mut fmt::Formatter<W>) -> fmt::Result {
-    let number = fault.number();
-    let place = fault.place();
-    write!(f, "refused {number} {place}: ")
-}
+// The number of the broken rule, and the place.
+#[derive(Clone, Copy)]
+struct Rule(PlanFault);
 
-fn show_window<W: fmt::Write>(
-    words: &str,
-    window: Window,
-    f: &mut fmt::Formatter<W>,
-) -> fmt::Result {
-    let first = window.first.0;
-    let bits = window.bits;
-    if bits == 0 {
-        return writeln!(
-            f,
-            "{words} have no bits, and then the first bit is 0, not {first}"
-        );
+impl fmt::Display for Rule {
+    fn fmt<W: fmt::Write>(&self, f: &mut fmt::Formatter<W>) -> fmt::Result {
+        let number = self.0.number();
+        let place = self.0.place();
+        write!(f, "refused {number} {place}")
     }
-    writeln!(
-        f,
-        "{words} have {bits} bits; a window has at most {MAX_WINDOW_BITS}"
-    )
 }
 
-fn show_field<W: fmt::Write>(
-    place: Place<'_>,
-    station: &PlannedStation,
-    field: StationField,
-    f: &mut fmt::Formatter<W>,
-) -> fmt::Result {
-    write!(f, "{place}: ")?;
-    match field {
-        StationField::Outputs => show_window("its outputs", station.outputs(), f),
-        StationField::Inputs => show_window("its inputs", station.inputs(), f),
-        StationField::Mailbox => {
-            let bytes = station.mailbox();
-            writeln!(
+// A window out of range, with what it is called.
+#[derive(Clone, Copy)]
+struct BadWindow<'a>(&'a str, Window);
+
+impl fmt::Display for BadWindow<'_> {
+    fn fmt<W: fmt::Write>(&self, f: &mut fmt::Formatter<W>) -> fmt::Result {
+        let words = self.0;
+        let first = self.1.first.0;
+        let bits = self.1.bits;
+        if bits == 0 {
+            return write!(
                 f,
-                "its mailbox has {bytes} bytes; it may have {MIN_MAILBOX_BYTES} to {MAX_MAILBOX_BYTES}, or 0 for none"
-            )
+                "{words} have no bits, and then the first bit is 0, not {first}"
+            );
         }
+        write!(
+            f,
+            "{words} have {bits} bits; a window has at most {MAX_WINDOW_BITS}"
+        )
     }
 }
 
-fn show_station<W: fmt::Write>(
+// A station with a field out of range.
+#[derive(Clone, Copy)]
+struct BadField<'a, 'b> {
+    sited: Sited<'a, 'b>,
+    field: StationField,
+}
+
+impl fmt::Display for BadField<'_, '_> {
+    fn fmt<W: fmt::Write>(&self, f: &mut fmt::Formatter<W>) -> fmt::Result {
+        let Sited { place, station } = self.sited;
+        let window = match self.field {
+            StationField::Outputs => BadWindow("its outputs", station.outputs()),
+            StationField::Inputs => BadWindow("its inputs", station.inputs()),
+            StationField::Mailbox => {
+                let bytes = station.mailbox();
+                return write!(
+                    f,
+                    "{place}: its mailbox has {bytes} bytes; it may have {MIN_MAILBOX_BYTES} to {MAX_MAILBOX_BYTES}, or 0 for none"
+                );
+            }
+        };
+        write!(f, "{place}: {window}")
+    }
+}
+
+// What is wrong with a station behind a plan.
+#[derive(Clone, Copy)]
+struct BadStation<'a, 'b> {
     fault: PlanFault,
-    before: &NamedPlan<'_>,
-    refused: &StationLine<'_>,
-    f: &mut fmt::Formatter<W>,
-) -> fmt::Result {
-    let place = Place {
-        position: usize::from(fault.place()),
-        name: refused.name,
-    };
-    match fault {
-        PlanFault::TooManyStations { .. } => {
-            writeln!(
+    before: &'b NamedPlan<'a>,
+    refused: &'b StationLine<'a>,
+}
+
+impl fmt::Display for BadStation<'_, '_> {
+    fn fmt<W: fmt::Write>(&self, f: &mut fmt::Formatter<W>) -> fmt::Result {
+        let place = Place {
+            position: usize::from(self.fault.place()),
+            name: self.refused.name,
+        };
+        let sited = Sited {
+            place,
+            station: &self.refused.station,
+        };
+        match self.fault {
+            PlanFault::TooManyStations { .. } => write!(
                 f,
                 "{place} is one too many; a plan has at most {MAX_STATIONS}"
-            )
+            ),
+            PlanFault::FieldOutOfRange { field, .. } => {
+                let bad = BadField { sited, field };
+                write!(f, "{bad}")
+            }
+            PlanFault::WindowConflict { earlier, .. } => {
+                let conflict = Conflict {
+                    before: self.before,
+                    earlier,
+                    later: sited,
+                };
+                write!(f, "{conflict}")
+            }
+            PlanFault::ImageLength => f.write_str("the image"),
+            PlanFault::NoStations => f.write_str("there is no station"),
         }
-        PlanFault::FieldOutOfRange { field, .. } => show_field(place, &refused.station, field, f),
-        PlanFault::WindowConflict { earlier, .. } => show_conflict(
-            before,
-            earlier,
-            place,
-            &refused.station,
-            f,
-        ),
-        PlanFault::ImageLength => writeln!(f, "the image"),
-        PlanFault::NoStations => writeln!(f, "there is no station"),
     }
 }
 
@@ -95,10 +119,10 @@ impl fmt::Display for Rejected<'_, '_> {
         match self.error {
             ReadError::Unread { line, expected } => writeln!(f, "line {line}: {expected}"),
             ReadError::ImageRefused { bytes, fault } => {
-                show_rule(*fault, f)?;
+                let rule = Rule(*fault);
                 writeln!(
                     f,
-                    "the image has {bytes} bytes; it may have {MIN_IMAGE_BYTES} to {MAX_IMAGE_BYTES}"
+                    "{rule}: the image has {bytes} bytes; it may have {MIN_IMAGE_BYTES} to {MAX_IMAGE_BYTES}"
                 )
             }
             ReadError::StationRefused {
@@ -106,12 +130,20 @@ impl fmt::Display for Rejected<'_, '_> {
                 before,
                 refused,
             } => {
-                show_rule(*fault, f)?;
-                show_station(*fault, before, refused, f)
+                let rule = Rule(*fault);
+                let bad = BadStation {
+                    fault: *fault,
+                    before,
+                    refused,
+                };
+                writeln!(f, "{rule}: {bad}")
             }
             ReadError::Empty { fault } => {
-                show_rule(*fault, f)?;
-                writeln!(f, "there is no station; a plan has 1 to {MAX_STATIONS}")
+                let rule = Rule(*fault);
+                writeln!(
+                    f,
+                    "{rule}: there is no station; a plan has 1 to {MAX_STATIONS}"
+                )
             }
             ReadError::NoMemory => f.write_str("there was not enough memory\n"),
         }

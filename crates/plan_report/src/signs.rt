@@ -12,23 +12,16 @@ const INPUT_SIGNS: &[u8; 32] = b"abcdefghijklmnopqrstuvwxyz!@$%&*";
 
 pub const FREE: char = '.';
 
-fn sign_at(signs: &[u8], position: usize) -> char
-    ensures { result ≡ slice_index_or signs.now position 63 }
-{
-    if position < signs.len() {
-        char::from(signs[position])
-    } else {
-        '?'
-    }
-}
-
 fn sign_in(owner: Owner) -> char
     ensures { result ≡ sign (Some owner) }
 {
-    match owner.direction {
-        Direction::Output => sign_at(OUTPUT_SIGNS, usize::from(owner.position.0)),
-        Direction::Input => sign_at(INPUT_SIGNS, usize::from(owner.position.0)),
-    }
+    let signs = match owner.direction {
+        Direction::Output => OUTPUT_SIGNS,
+        Direction::Input => INPUT_SIGNS,
+    };
+    signs
+        .get(usize::from(owner.position.0))
+        .map_or('?', |sign| char::from(*sign))
 }
 
 // The sign of a bit with that owner. No two owners that a plan can have are drawn alike.

@@ -218,10 +218,10 @@ fn a_bit_has_one_owner(rt: HostRuntime) -> Result<(), Fail> {
 #[test]
 fn a_plan_with_no_station_is_told_apart(rt: HostRuntime) -> Result<(), Fail> {
     let mut plan = Plan::new(rt.alloc(), 1)?;
-    let fault = plan.fault_if_empty().ok_or("it has no station")?;
+    let fault = plan.check_not_empty().err().ok_or("it has no station")?;
     assert_eq!(rt; fault.number(), 6);
     assert_eq!(rt; fault.place(), 0);
     plan.add(mailbox(0))?;
-    assert!(rt; plan.fault_if_empty().is_none());
+    assert!(rt; plan.check_not_empty().is_ok());
     Ok(())
 }

@@ -3,6 +3,8 @@ use Rattle.std.specs.Prelude.{ℕ, Bool, true, false, List, Some, None, Ok, Err,
 use Rattle.std.specs.Option.{unwrap_or}
 use Rattle.units.specs.declared.ImageBit.{ImageBit}
 use Rattle.text.specs.Decimal.{decimal_of}
+use Rattle.plan.specs.declared.windows.Direction.{Direction}
+use Rattle.plan.specs.declared.windows.Direction.TheVariants.{Output, Input}
 use Rattle.plan.specs.declared.windows.Window.{Window}
 use Rattle.plan.specs.declared.stations.PlannedStation.{PlannedStation}
 use Rattle.plan_text.specs.declared.expected.Expected.{Expected}
@@ -11,7 +13,7 @@ use Rattle.plan_text.specs.declared.keywords.Keyword.{Keyword}
 use Rattle.plan_text.specs.declared.keywords.Keyword.TheVariants.{Image, Station, Out, In, Mailbox, Name}
 use Rattle.plan_text.specs.declared.stages.Fields.{Fields}
 use Rattle.plan_text.specs.declared.stages.Stage.{Stage}
-use Rattle.plan_text.specs.declared.stages.Stage.TheVariants.{AtLineKind, AtImageBytes, AfterImage, AtField, AtOutputsFirst, AtOutputsCount, AtInputsFirst, AtInputsCount, AtMailboxBytes, AtName, AfterName}
+use Rattle.plan_text.specs.declared.stages.Stage.TheVariants.{AtLineKind, AtImageBytes, AfterImage, AtField, AtFirstBit, AtBitCount, AtMailboxBytes, AtName, AfterName}
 use Rattle.plan_text.specs.Keywords.{keyword_of}
 
 -- no field given
@@ -31,6 +33,11 @@ told_station f = record {
   inputs = unwrap_or f.inputs (window (bit 0) 0);
   mailbox = unwrap_or f.mailbox 0;
 }
+
+-- the fields with the window of that direction given
+abbrev pub with_window : Fields → Direction → Window → Fields
+with_window f Output w = record { outputs = Some w; inputs = f.inputs; mailbox = f.mailbox }
+with_window f Input w = record { outputs = f.outputs; inputs = Some w; mailbox = f.mailbox }
 
 -- `image` or `station`
 abbrev pub begun : Option Keyword → Result Stage Expected
@@ -52,8 +59,8 @@ abbrev pub field : Fields → Option Keyword → Result Stage Expected
 field f None = Err Field
 field f (Some Image) = Err Field
 field f (Some Station) = Err Field
-field f (Some Out) = once f.outputs (AtOutputsFirst f)
-field f (Some In) = once f.inputs (AtInputsFirst f)
+field f (Some Out) = once f.outputs (AtFirstBit f Output)
+field f (Some In) = once f.inputs (AtFirstBit f Input)
 field f (Some Mailbox) = once f.mailbox (AtMailboxBytes f)
 field f (Some Name) = Ok (AtName f)
 
@@ -67,10 +74,8 @@ follow AtLineKind word = begun (keyword_of word)
 follow AtImageBytes word = number (decimal_of word) ImageBytes (λ n. AfterImage n)
 follow (AfterImage bytes) word = Err EndOfLine
 follow (AtField f) word = field f (keyword_of word)
-follow (AtOutputsFirst f) word = number (decimal_of word) FirstBit (λ n. AtOutputsCount f (bit n))
-follow (AtOutputsCount f first) word = number (decimal_of word) BitCount (λ n. AtField (record { outputs = Some (window first n); inputs = f.inputs; mailbox = f.mailbox }))
-follow (AtInputsFirst f) word = number (decimal_of word) FirstBit (λ n. AtInputsCount f (bit n))
-follow (AtInputsCount f first) word = number (decimal_of word) BitCount (λ n. AtField (record { outputs = f.outputs; inputs = Some (window first n); mailbox = f.mailbox }))
+follow (AtFirstBit f direction) word = number (decimal_of word) FirstBit (λ n. AtBitCount f direction (bit n))
+follow (AtBitCount f direction first) word = number (decimal_of word) BitCount (λ n. AtField (with_window f direction (window first n)))
 follow (AtMailboxBytes f) word = number (decimal_of word) MailboxBytes (λ n. AtField (record { outputs = f.outputs; inputs = f.inputs; mailbox = Some n }))
 follow (AtName f) word = Ok (AfterName f)
 follow (AfterName f) word = Err EndOfLine
@@ -81,10 +86,8 @@ awaits_name AtLineKind = false
 awaits_name AtImageBytes = false
 awaits_name (AfterImage bytes) = false
 awaits_name (AtField f) = false
-awaits_name (AtOutputsFirst f) = false
-awaits_name (AtOutputsCount f first) = false
-awaits_name (AtInputsFirst f) = false
-awaits_name (AtInputsCount f first) = false
+awaits_name (AtFirstBit f direction) = false
+awaits_name (AtBitCount f direction first) = false
 awaits_name (AtMailboxBytes f) = false
 awaits_name (AtName f) = true
 awaits_name (AfterName f) = false

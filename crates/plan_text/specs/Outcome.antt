@@ -4,14 +4,12 @@ use Rattle.std.specs.Option.{option_map}
 use Rattle.text.specs.Lines.{lines}
 use Rattle.plan.specs.declared.stations.PlannedStation.{PlannedStation}
 use Rattle.plan.specs.declared.faults.PlanFault.{PlanFault}
-use Rattle.plan.specs.declared.faults.PlanError.{PlanError}
-use Rattle.plan.specs.declared.faults.PlanError.TheVariants.{Refused, Memory}
 use Rattle.plan.specs.Verdict.{image_verdict, empty_verdict, verdict}
 use Rattle.plan.specs.Building.{image_bytes, stations_of, Holds}
 use Rattle.plan_text.specs.declared.expected.Expected.{Expected}
 use Rattle.plan_text.specs.declared.expected.Expected.TheVariants.{ImageFirst, OneImage}
 use Rattle.plan_text.specs.declared.said.StationLine.{StationLine}
-use Rattle.plan_text.specs.declared.reading.NamedPlan.{NamedPlan}
+use Rattle.plan_text.specs.declared.named.NamedPlan.{NamedPlan}
 use Rattle.plan_text.specs.declared.reading.ReadError.{ReadError}
 use Rattle.plan_text.specs.declared.reading.ReadError.TheVariants.{Unread, ImageRefused, StationRefused, Empty, NoMemory}
 use Rattle.plan_text.specs.Said.{Said, nothing, image, station, line_of}
@@ -66,8 +64,16 @@ Answered o (Err (StationRefused fault before refused)) = o ≡ station_refused f
 Answered o (Err (Empty fault)) = o ≡ empty fault
 Answered o (Err NoMemory) = Unit
 
--- a station is added with its name; a refused one leaves plan and names as they were
-abbrev pub Admitted : NamedPlan → StationLine → Result Unit PlanError → NamedPlan → Type 0
-Admitted before told (Ok _) after = (verdict (image_bytes before.plan) (stations_of before.plan) told.station ≡ None) × Holds after.plan (image_bytes before.plan) (stations_of before.plan ++ told.station ∷ []) × (names_of after ≡ names_of before ++ option_map (λ x. x.now) told.name ∷ [])
-Admitted before told (Err (Refused fault)) after = (verdict (image_bytes before.plan) (stations_of before.plan) told.station ≡ Some fault) × Holds after.plan (image_bytes before.plan) (stations_of before.plan) × (names_of after ≡ names_of before)
-Admitted before told (Err Memory) after = Unit
+-- what is answered is a refusal, and nothing after it counts; want of memory says nothing
+abbrev pub Refuses : Option PlanFault → (PlanFault → Outcome) → ReadError → Type 0
+Refuses fault refused e = (after : Outcome) → Answered (unless fault refused after) (Err e)
+
+-- a new plan has no station and no name
+abbrev pub StartedNamed : ℕ → Result NamedPlan ReadError → Type 0
+StartedNamed bytes (Ok p) = (image_verdict bytes ≡ None) × Holds p.plan bytes [] × (names_of p ≡ [])
+StartedNamed bytes (Err e) = Refuses (image_verdict bytes) (image_refused bytes) e
+
+-- a station is added with its name, or refused with plan and names as they were
+abbrev pub Admitted : NamedPlan → StationLine → Result NamedPlan ReadError → Type 0
+Admitted before told (Ok after) = (verdict (image_bytes before.plan) (stations_of before.plan) told.station ≡ None) × Holds after.plan (image_bytes before.plan) (stations_of before.plan ++ told.station ∷ []) × (names_of after ≡ names_of before ++ option_map (λ x. x.now) told.name ∷ [])
+Admitted before told (Err e) = Refuses (verdict (image_bytes before.plan) (stations_of before.plan) told.station) (λ fault. station_refused fault (image_bytes before.plan) (stations_of before.plan) (names_of before) told.station (option_map (λ x. x.now) told.name)) e

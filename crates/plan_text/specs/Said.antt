@@ -7,7 +7,7 @@ use Rattle.plan.specs.declared.stations.PlannedStation.{PlannedStation}
 use Rattle.plan_text.specs.declared.expected.Expected.{Expected}
 use Rattle.plan_text.specs.declared.expected.Expected.TheVariants.{ImageBytes, FirstBit, BitCount, MailboxBytes, NameWord}
 use Rattle.plan_text.specs.declared.stages.Stage.{Stage}
-use Rattle.plan_text.specs.declared.stages.Stage.TheVariants.{AtLineKind, AtImageBytes, AfterImage, AtField, AtOutputsFirst, AtOutputsCount, AtInputsFirst, AtInputsCount, AtMailboxBytes, AtName, AfterName}
+use Rattle.plan_text.specs.declared.stages.Stage.TheVariants.{AtLineKind, AtImageBytes, AfterImage, AtField, AtFirstBit, AtBitCount, AtMailboxBytes, AtName, AfterName}
 use Rattle.plan_text.specs.declared.said.Line.{Line}
 use Rattle.plan_text.specs.declared.said.Line.TheVariants.{Blank, Image, Station}
 use Rattle.plan_text.specs.Grammar.{told_station, awaits_name, follow}
@@ -23,10 +23,8 @@ ended AtLineKind name = Ok nothing
 ended AtImageBytes name = Err ImageBytes
 ended (AfterImage bytes) name = Ok (image bytes)
 ended (AtField f) name = Ok (station (told_station f) name)
-ended (AtOutputsFirst f) name = Err FirstBit
-ended (AtOutputsCount f first) name = Err BitCount
-ended (AtInputsFirst f) name = Err FirstBit
-ended (AtInputsCount f first) name = Err BitCount
+ended (AtFirstBit f direction) name = Err FirstBit
+ended (AtBitCount f direction first) name = Err BitCount
 ended (AtMailboxBytes f) name = Err MailboxBytes
 ended (AtName f) name = Err NameWord
 ended (AfterName f) name = Ok (station (told_station f) name)

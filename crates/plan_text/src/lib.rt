@@ -3,10 +3,12 @@
 
 pub mod expected;
 mod keywords;
+pub mod named;
 pub mod reading;
 pub mod said;
 mod stages;
 
 pub use expected::Expected;
-pub use reading::{NamedPlan, ReadError, read_plan};
+pub use named::NamedPlan;
+pub use reading::{ReadError, read_plan};
 pub use said::{Line, StationLine, read_line};

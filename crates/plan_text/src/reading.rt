@@ -1,21 +1,12 @@
 // Reads a whole plan. Its lines are judged in order, and the first fault ends it.
-ghost use Rattle.std.specs.Prelude.{◌≡◌, ◌+◌, ◌^◌, ◌<◌, [], length};
-ghost use Rattle.text.specs.Lines.{lines_left};
-ghost use Rattle.plan_text.specs.Outcome.{read_text, stations_from, unless, image_refused, Answered, Admitted};
-ghost use Rattle.plan.specs.Verdict.{image_verdict};
+ghost use Rattle.plan_text.specs.Outcome.{read_text, Answered};
 
 use crate::expected::Expected;
+use crate::named::NamedPlan;
 use crate::said::{Line, StationLine, read_line};
-use plan::{Plan, PlanError, PlanFault};
+use plan::PlanFault;
 use std::alloc::Global;
 use text::Lines;
-
-// A plan, and the names of its stations by position.
-#[derive(Drop)]
-pub struct NamedPlan<'a> {
-    pub plan: Plan,
-    pub names: Vec<Option<&'a [u8]>>,
-}
 
 #[derive(Drop)]
 pub enum ReadError<'a> {
@@ -41,89 +32,31 @@ pub enum ReadError<'a> {
     NoMemory,
 }
 
-impl<'a> NamedPlan<'a> {
-    // Adds the station that a line tells of, with its name.
-    fn admit(&mut self, told: StationLine<'a>) -> Result<(), PlanError>
-        ensures { Admitted self.old told.entry result self.new }
-    {
-        self.plan.add(told.station)?;
-        self.names.push(told.name)?;
-        Ok(())
-    }
-}
-
-// The lines below the image line, of which the last read has that number.
-fn read_stations<'a>(
-    heap: Global,
-    bytes: u32,
-    mut lines: Lines<'a>,
-    last: usize,
-) -> Result<NamedPlan<'a>, ReadError<'a>>
-    requires { last + length (lines_left lines) < 2 ^ 64 }
-    ensures { Answered (unless (image_verdict bytes) (image_refused bytes) (stations_from (last + 1) bytes [] [] (lines_left lines.entry))) result }
-{
-    let plan = match Plan::new(heap, bytes) {
-        Ok(plan) => plan,
-        Err(fault) => return Err(ReadError::ImageRefused { bytes, fault }),
-    };
-    let mut named = NamedPlan {
-        plan,
-        names: Vec::new(heap),
-    };
-    let mut number = last;
-    while let Some(line) = lines.next_line() {
-        number += 1;
-        match read_line(line) {
-            Err(expected) => return Err(ReadError::Unread {
-                line: number,
-                expected,
-            }),
-            Ok(Line::Blank) => {}
-            Ok(Line::Image { bytes: _ }) => return Err(ReadError::Unread {
-                line: number,
-                expected: Expected::OneImage,
-            }),
-            Ok(Line::Station(told)) => match named.admit(told) {
-                Ok(()) => {}
-                Err(PlanError::Refused(fault)) => {
-                    return Err(ReadError::StationRefused {
-                        fault,
-                        before: named,
-                        refused: told,
-                    });
-                }
-                Err(PlanError::Memory) => return Err(ReadError::NoMemory),
-            },
-        }
-    }
-    match named.plan.fault_if_empty() {
-        Some(fault) => Err(ReadError::Empty { fault }),
-        None => Ok(named),
-    }
-}
-
 // The plan that a text makes, or what is wrong with it first.
 pub fn read_plan(heap: Global, text: &[u8]) -> Result<NamedPlan<'_>, ReadError<'_>>
     ensures { Answered (read_text text.now) result }
 {
-    let mut lines = Lines::of(text);
-    let mut number = 0;
-    while let Some(line) = lines.next_line() {
-        number += 1;
-        match read_line(line) {
-            Err(expected) => return Err(ReadError::Unread {
-                line: number,
-                expected,
-            }),
-            Ok(Line::Blank) => {}
-            Ok(Line::Image { bytes }) => return read_stations(heap, bytes, lines, number),
-            Ok(Line::Station(_)) => return Err(ReadError::Unread {
-                line: number,
-                expected: Expected::ImageFirst,
-            }),
-        }
+    // none above the image line
+    let mut named: Option<NamedPlan<'_>> = None;
+    for (i, line) in Lines::of(text).enumerate() {
+        let unread = |expected| ReadError::Unread {
+            line: i + 1,
+            expected,
+        };
+        named = match (named, read_line(line).map_err(unread)?) {
+            (named, Line::Blank) => named,
+            (None, Line::Image { bytes }) => Some(NamedPlan::new(heap, bytes)?),
+            (Some(_), Line::Image { .. }) => return Err(unread(Expected::OneImage)),
+            (None, Line::Station(_)) => return Err(unread(Expected::ImageFirst)),
+            (Some(named), Line::Station(told)) => Some(named.admit(told)?),
+        };
     }
-    Err(ReadError::Empty {
+    let named = named.ok_or(ReadError::Empty {
         fault: PlanFault::NoStations,
-    })
+    })?;
+    named
+        .plan
+        .check_not_empty()
+        .map_err(|fault| ReadError::Empty { fault })?;
+    Ok(named)
 }

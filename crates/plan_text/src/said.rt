@@ -31,19 +31,13 @@ fn ended<'a>(stage: Stage, name: Option<&'a [u8]>) -> Result<Line<'a>, Expected>
     match stage {
         Stage::AtLineKind => Ok(Line::Blank),
         Stage::AfterImage { bytes } => Ok(Line::Image { bytes }),
-        Stage::AtField(fields) => Ok(Line::Station(StationLine {
-            station: fields.station(),
-            name,
-        })),
-        Stage::AfterName(fields) => Ok(Line::Station(StationLine {
+        Stage::AtField(fields) | Stage::AfterName(fields) => Ok(Line::Station(StationLine {
             station: fields.station(),
             name,
         })),
         Stage::AtImageBytes => Err(Expected::ImageBytes),
-        Stage::AtOutputsFirst(_) => Err(Expected::FirstBit),
-        Stage::AtOutputsCount(_, _) => Err(Expected::BitCount),
-        Stage::AtInputsFirst(_) => Err(Expected::FirstBit),
-        Stage::AtInputsCount(_, _) => Err(Expected::BitCount),
+        Stage::AtFirstBit(_, _) => Err(Expected::FirstBit),
+        Stage::AtBitCount(_, _, _) => Err(Expected::BitCount),
         Stage::AtMailboxBytes(_) => Err(Expected::MailboxBytes),
         Stage::AtName(_) => Err(Expected::NameWord),
     }
@@ -52,10 +46,9 @@ fn ended<'a>(stage: Stage, name: Option<&'a [u8]>) -> Result<Line<'a>, Expected>
 pub fn read_line(line: &[u8]) -> Result<Line<'_>, Expected>
     ensures { said_of result ≡ line_of line.now }
 {
-    let mut words = Words::of(uncommented(line));
     let mut stage = Stage::AtLineKind;
     let mut name = None;
-    while let Some(word) = words.next_word() {
+    for word in Words::of(uncommented(line)) {
         if stage.awaits_name() {
             name = Some(word);
         }

@@ -1,10 +1,10 @@
 // How far a line has been read, word by word.
 ghost use Rattle.std.specs.Prelude.{◌≡◌};
-ghost use Rattle.plan_text.specs.Grammar.{unnamed, begun, field, follow, awaits_name, told_station};
+ghost use Rattle.plan_text.specs.Grammar.{begun, once, with_window, field, follow, awaits_name, told_station};
 
 use crate::expected::Expected;
 use crate::keywords::{Keyword, keyword_of};
-use plan::{PlannedStation, Window};
+use plan::{Direction, PlannedStation, Window};
 use text::decimal;
 use units::ImageBit;
 
@@ -16,17 +16,15 @@ pub struct Fields {
     pub mailbox: Option<u32>,
 }
 
-// Where in a line the next word stands.
+// Where in a line the next word stands. Cases, and no closures for the steps: the grammar's definition goes by them.
 #[derive(Clone, Copy)]
 pub enum Stage {
     AtLineKind,
     AtImageBytes,
     AfterImage { bytes: u32 },
     AtField(Fields),
-    AtOutputsFirst(Fields),
-    AtOutputsCount(Fields, ImageBit),
-    AtInputsFirst(Fields),
-    AtInputsCount(Fields, ImageBit),
+    AtFirstBit(Fields, Direction),
+    AtBitCount(Fields, Direction, ImageBit),
     AtMailboxBytes(Fields),
     AtName(Fields),
     AfterName(Fields),
@@ -49,22 +47,43 @@ impl Fields {
             .with_mailbox(self.mailbox.unwrap_or(0))
     }
 
+    // The fields with that window given.
+    fn with_window(self, direction: Direction, window: Window) -> Fields
+        ensures { result ≡ with_window self direction window }
+    {
+        match direction {
+            Direction::Output => Fields {
+                outputs: Some(window),
+                ..self
+            },
+            Direction::Input => Fields {
+                inputs: Some(window),
+                ..self
+            },
+        }
+    }
+
     // The word that begins a field, each of which comes at most once.
     fn field(self, word: Option<Keyword>) -> Result<Stage, Expected>
         ensures { result ≡ field self word }
     {
-        let (stage, given) = match word {
-            Some(Keyword::Out) => (Stage::AtOutputsFirst(self), self.outputs.is_some()),
-            Some(Keyword::In) => (Stage::AtInputsFirst(self), self.inputs.is_some()),
-            Some(Keyword::Mailbox) => (Stage::AtMailboxBytes(self), self.mailbox.is_some()),
-            Some(Keyword::Name) => (Stage::AtName(self), false),
-            _ => return Err(Expected::Field),
-        };
-        if given {
-            Err(Expected::FieldOnce)
-        } else {
-            Ok(stage)
+        match word {
+            Some(Keyword::Out) => once(self.outputs, Stage::AtFirstBit(self, Direction::Output)),
+            Some(Keyword::In) => once(self.inputs, Stage::AtFirstBit(self, Direction::Input)),
+            Some(Keyword::Mailbox) => once(self.mailbox, Stage::AtMailboxBytes(self)),
+            Some(Keyword::Name) => Ok(Stage::AtName(self)),
+            _ => Err(Expected::Field),
         }
+    }
+}
+
+// What may stand only where nothing is given yet.
+fn once<T: Drop>(given: Option<T>, next: Stage) -> Result<Stage, Expected>
+    ensures { result ≡ once given next }
+{
+    match given {
+        None => Ok(next),
+        Some(_) => Err(Expected::FieldOnce),
     }
 }
 
@@ -98,27 +117,14 @@ impl Stage {
                 Ok(Stage::AfterImage { bytes })
             }
             Stage::AtField(fields) => fields.field(keyword_of(word)),
-            Stage::AtOutputsFirst(fields) => {
+            Stage::AtFirstBit(fields, direction) => {
                 let first = decimal(word).ok_or(Expected::FirstBit)?;
-                Ok(Stage::AtOutputsCount(fields, ImageBit(first)))
+                Ok(Stage::AtBitCount(fields, direction, ImageBit(first)))
             }
-            Stage::AtOutputsCount(fields, first) => {
+            Stage::AtBitCount(fields, direction, first) => {
                 let bits = decimal(word).ok_or(Expected::BitCount)?;
-                Ok(Stage::AtField(Fields {
-                    outputs: Some(Window { first, bits }),
-                    ..fields
-                }))
-            }
-            Stage::AtInputsFirst(fields) => {
-                let first = decimal(word).ok_or(Expected::FirstBit)?;
-                Ok(Stage::AtInputsCount(fields, ImageBit(first)))
-            }
-            Stage::AtInputsCount(fields, first) => {
-                let bits = decimal(word).ok_or(Expected::BitCount)?;
-                Ok(Stage::AtField(Fields {
-                    inputs: Some(Window { first, bits }),
-                    ..fields
-                }))
+                let window = Window { first, bits };
+                Ok(Stage::AtField(fields.with_window(direction, window)))
             }
             Stage::AtMailboxBytes(fields) => {
                 let bytes = decimal(word).ok_or(Expected::MailboxBytes)?;
@@ -128,8 +134,7 @@ impl Stage {
                 }))
             }
             Stage::AtName(fields) => Ok(Stage::AfterName(fields)),
-            Stage::AfterImage { bytes: _ } => Err(Expected::EndOfLine),
-            Stage::AfterName(_) => Err(Expected::EndOfLine),
+            Stage::AfterImage { .. } | Stage::AfterName(_) => Err(Expected::EndOfLine),
         }
     }
 }

@@ -5,6 +5,7 @@
 use frame_report::{Rewriting, report};
 use std::io::Read;
 
+// As in dissect: a function for both could promise nothing, since no contract says what is read or printed.
 fn main(rt: HostRuntime) -> anyhow::Result<()> {
     let heap = rt.alloc();
     let mut text = Vec::new(heap);

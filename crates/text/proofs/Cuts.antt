@@ -1,127 +1,95 @@
 -- The first piece of a run of bytes, and what is left after it. Assumes nothing.
-use Rattle.std.proofs.Common.{◌≡◌, ℕ, suc, ◌+◌, ◌-◌, ◌<◌, ◌≤◌, Bool, true, false, cond, not, eqb, List, [], ◌∷◌, length, get_or, take, drop, sym, refl, ap, ◌∙◌, subst, inl, inr, one-add, arith}
-use Rattle.std.specs.List.{prefix_len}
-use Rattle.std.proofs.lemmas.Bool.{cases_Bool}
-use Rattle.text.specs.Pieces.{other, longer, pieces}
+use Rattle.std.proofs.Common.{◌≡◌, ℕ, ◌+◌, ◌<◌, ◌≤◌, Bool, false, true, cond, not, eqb, List, [], ◌∷◌, length, get_or, take, drop, Some, None, Option, sym, refl, ap, ◌∙◌, inl, inr, add-zero, arith}
+use Rattle.std.specs.Option.{unwrap_or}
+use Rattle.std.specs.List.{position, position_or_len, before_first, after_first}
+use Rattle.std.proofs.lemmas.Bool.{cases_Bool, not-true}
+use Rattle.std.proofs.lemmas.Bool.Decides.{nat_tests}
+use Rattle.std.proofs.lemmas.Grind.{common_steps}
+use Rattle.std.proofs.lemmas.List.{length-drop, get_or-drop}
+use Rattle.std.proofs.lemmas.List.Quantifiers.{position-Some}
+use Rattle.std.proofs.lemmas.List.Sums.{prefix_len-le-length}
+use Rattle.text.specs.Pieces.{pieces}
 use Rattle.text.specs.Lines.{newline, lines, uncommented}
-use Rattle.text.specs.Words.{blank, solid, nonempty, words}
+use Rattle.text.specs.Words.{blank, nonempty, words}
 
--- how many bytes stand before the first that stops
-abbrev up_to : (ℕ → Bool) → List ℕ → ℕ
-up_to stop xs = prefix_len (λ b. not (stop b)) xs
+-- the place of the first byte that passes, or the length
+pub end_is : (p : ℕ → Bool) (xs : List ℕ) (at : Option ℕ) → at ≡ position p xs → unwrap_or at (length xs) ≡ position_or_len p xs
+end_is p xs at is = grind (arith, nat_tests, prefix_len-le-length)
 
--- the cut of xs after n bytes, where the next is left out
-abbrev cut : (ℕ → Bool) → ℕ → List ℕ → List (List ℕ)
-cut stop n xs = take n xs ∷ pieces stop (drop (n + 1) xs)
+first_piece : (stop : ℕ → Bool) (b : ℕ) (bs : List ℕ) → pieces stop (b ∷ bs) ≡ before_first stop (b ∷ bs) ∷ pieces stop (after_first stop (b ∷ bs))
+first_piece stop b [] = grind (arith, common_steps)
+first_piece stop b (c ∷ cs) = grind (arith, common_steps, first_piece stop c cs)
 
-cut_more : (stop : ℕ → Bool) (n b : ℕ) (bs : List ℕ) → cut stop (1 + n) (b ∷ bs) ≡ longer b (cut stop n bs)
-cut_more stop n b bs =
-    let front : 1 + n ≡ suc n = omega arith in
-    let back : 1 + n + 1 ≡ suc (n + 1) = omega arith in
-    λ j. take (front j) (b ∷ bs) ∷ pieces stop (drop (back j) (b ∷ bs))
-
-first_piece : (stop : ℕ → Bool) (b : ℕ) (bs : List ℕ) → pieces stop (b ∷ bs) ≡ cut stop (up_to stop (b ∷ bs)) (b ∷ bs)
-first_piece stop b [] =
-    elim (stop b) as (λ v. cond v ([] ∷ []) ((b ∷ []) ∷ []) ≡ cut stop (cond (not v) 1 0) (b ∷ [])) [ true ↦ refl | false ↦ refl ]
-first_piece stop b (c ∷ cs) =
-    elim (stop b) as (λ v. cond v ([] ∷ pieces stop (c ∷ cs)) (longer b (pieces stop (c ∷ cs))) ≡ cut stop (cond (not v) (1 + up_to stop (c ∷ cs)) 0) (b ∷ c ∷ cs)) [
-      | true ↦ refl
-      | false ↦ ap (longer b) (first_piece stop c cs) ∙ sym (cut_more stop (up_to stop (c ∷ cs)) b (c ∷ cs))
-    ]
-
-first_line : (xs : List ℕ) → 0 < length xs → lines xs ≡ take (prefix_len (other 10) xs) xs ∷ lines (drop (prefix_len (other 10) xs + 1) xs)
+first_line : (xs : List ℕ) → 0 < length xs → lines xs ≡ before_first newline xs ∷ lines (after_first newline xs)
 unfolding lines
 first_line [] h = absurd (omega arith)
 first_line (b ∷ bs) h = first_piece newline b bs
 
--- the first n bytes are a line, and rest is what follows the byte after them
-pub line_step : (xs : List ℕ) (n : ℕ) (rest : List ℕ) → 0 < length xs → n ≡ prefix_len (other 10) xs → rest ≡ drop (n + 1) xs → lines xs ≡ take (n - 0) xs ∷ lines rest
-line_step xs n rest some is left =
-    let front : prefix_len (other 10) xs ≡ n - 0 = omega arith in
-    let back = ap (λ k. drop (k + 1) xs) (sym is) ∙ sym left in
-    first_line xs some ∙ (λ j. take (front j) xs ∷ lines (back j))
+-- at is the place of the first newline
+pub line_step : (xs line rest : List ℕ) (at : Option ℕ) → 0 < length xs → at ≡ position newline xs → line ≡ take (unwrap_or at (length xs)) xs → rest ≡ drop (unwrap_or at (length xs) + 1) xs → lines xs ≡ line ∷ lines rest
+line_step xs line rest at some is front back = cc (end_is newline xs at is, first_line xs some)
 
 pub no_line : (xs : List ℕ) → length xs ≡ 0 → lines xs ≡ []
 unfolding lines
-no_line [] h = refl
-no_line (b ∷ bs) h = absurd (omega arith)
+no_line xs h = grind (arith, common_steps)
 
-pub uncommented_is : (xs : List ℕ) → take (prefix_len (other 35) xs) xs ≡ uncommented xs
+before_hash : (b : ℕ) (bs : List ℕ) → before_first (λ x. eqb x 35) (b ∷ bs) ≡ cond (eqb b 35) [] (b ∷ before_first (λ x. eqb x 35) bs)
+before_hash b bs = grind (arith, common_steps)
+
+pub uncommented_is : (xs : List ℕ) → before_first (λ b. eqb b 35) xs ≡ uncommented xs
 unfolding uncommented
 uncommented_is [] = refl
-uncommented_is (b ∷ bs) =
-    elim (eqb b 35) as (λ v. take (cond (not v) (1 + prefix_len (other 35) bs) 0) (b ∷ bs) ≡ cond v [] (b ∷ uncommented bs)) [
-      | true ↦ refl
-      | false ↦ ap (λ n. take n (b ∷ bs)) (one-add (prefix_len (other 35) bs)) ∙ ap (λ l. b ∷ l) (uncommented_is bs)
-    ]
+uncommented_is (b ∷ bs) = before_hash b bs ∙ ap (λ l. cond (eqb b 35) [] (b ∷ l)) (uncommented_is bs)
+
+-- a byte of a word
+abbrev pub solid : ℕ → Bool
+solid b = not (blank b)
 
 -- what is left of a line after the blanks at its front
-abbrev pub unblanked : List ℕ → List ℕ
-unblanked xs = drop (prefix_len blank xs) xs
+abbrev unblanked : List ℕ → List ℕ
+unblanked xs = drop (position_or_len solid xs) xs
 
-unblanked_blank : (b : ℕ) (bs : List ℕ) → blank b ≡ true → unblanked (b ∷ bs) ≡ unblanked bs
-unblanked_blank b bs e = ap (λ v. drop (cond v (1 + prefix_len blank bs) 0) (b ∷ bs)) e ∙ ap (λ n. drop n (b ∷ bs)) (one-add (prefix_len blank bs))
-
-unblanked_solid : (b : ℕ) (bs : List ℕ) → blank b ≡ false → unblanked (b ∷ bs) ≡ b ∷ bs
-unblanked_solid b bs e = ap (λ v. drop (cond v (1 + prefix_len blank bs) 0) (b ∷ bs)) e
+unblanked-cons : (b : ℕ) (bs : List ℕ) → unblanked (b ∷ bs) ≡ cond (blank b) (unblanked bs) (b ∷ bs)
+unblanked-cons b bs = grind (arith, common_steps)
 
 words-blank : (b : ℕ) (bs : List ℕ) → blank b ≡ true → words (b ∷ bs) ≡ words bs
 unfolding words
-words-blank b bs e = ap (λ v. nonempty (cond v ([] ∷ pieces blank bs) (longer b (pieces blank bs)))) e
+words-blank b bs e = grind (arith, common_steps)
 
 words_unblanked : (xs : List ℕ) → words xs ≡ words (unblanked xs)
 words_unblanked [] = refl
 words_unblanked (b ∷ bs) =
     elim (cases_Bool (blank b)) [
-      | inl e ↦ words-blank b bs e ∙ words_unblanked bs ∙ ap words (sym (unblanked_blank b bs e))
-      | inr e ↦ ap words (sym (unblanked_solid b bs e))
+      | inl e ↦ rw (unblanked-cons, e) (words-blank b bs e ∙ words_unblanked bs)
+      | inr e ↦ rw (unblanked-cons, e) refl
     ]
 
 no_word : (xs : List ℕ) → length xs ≡ 0 → words xs ≡ []
 unfolding words
-no_word [] h = refl
-no_word (b ∷ bs) h = absurd (omega arith)
+no_word xs h = grind (arith, common_steps)
 
--- a line that begins with a word
-abbrev WordFirst : List ℕ → Type 0
-WordFirst xs = 0 < length xs → blank (get_or xs 0 0) ≡ false
-
-word_first : (xs : List ℕ) → WordFirst (unblanked xs)
-word_first [] = λ h. absurd (omega arith)
-word_first (b ∷ bs) =
-    elim (cases_Bool (blank b)) [
-      | inl e ↦ subst WordFirst (sym (unblanked_blank b bs e)) (word_first bs)
-      | inr e ↦ subst WordFirst (sym (unblanked_solid b bs e)) (λ h. e)
-    ]
-
-first_word : (xs : List ℕ) → 0 < length xs → blank (get_or xs 0 0) ≡ false → words xs ≡ take (prefix_len solid xs) xs ∷ words (drop (prefix_len solid xs + 1) xs)
+first_word : (xs : List ℕ) → 0 < length xs → blank (get_or xs 0 0) ≡ false → words xs ≡ before_first blank xs ∷ words (after_first blank xs)
 unfolding words
 first_word [] h e = absurd (omega arith)
-first_word (b ∷ bs) h e =
-    let n = ap (λ v. cond (not v) (1 + prefix_len solid bs) 0) e ∙ one-add (prefix_len solid bs) in
-    ap nonempty (first_piece blank b bs)
-    ∙ subst (λ k. nonempty (take k (b ∷ bs) ∷ pieces blank (drop (prefix_len solid (b ∷ bs) + 1) (b ∷ bs))) ≡ take k (b ∷ bs) ∷ nonempty (pieces blank (drop (prefix_len solid (b ∷ bs) + 1) (b ∷ bs)))) (sym n) refl
+first_word (b ∷ bs) h e = let first = first_piece blank b bs in grind (arith, common_steps)
 
--- line is what the blanks at the front of xs leave; its first n bytes are a word, and rest is what follows the byte after them
-pub word_step : (xs line : List ℕ) (n : ℕ) (rest : List ℕ) → line ≡ unblanked xs → 0 < length line → n ≡ prefix_len solid line → rest ≡ drop (n + 1) line → words xs ≡ take (n - 0) line ∷ words rest
-word_step xs line n rest same some is left =
-    let front : prefix_len solid line ≡ n - 0 = omega arith in
-    let back = ap (λ k. drop (k + 1) line) (sym is) ∙ sym left in
-    words_unblanked xs ∙ ap words (sym same) ∙ first_word line some (subst WordFirst (sym same) (word_first xs) some) ∙ (λ j. take (front j) line ∷ words (back j))
+-- start is the place of the first byte that is no blank, and at that of the first blank after it
+pub word_step : (xs line word rest : List ℕ) (start : ℕ) (at : Option ℕ) → Some start ≡ position solid xs → line ≡ drop start xs → at ≡ position blank line → word ≡ take (unwrap_or at (length line)) line → rest ≡ drop (unwrap_or at (length line) + 1) line → words xs ≡ word ∷ words rest
+word_step xs line word rest start at found same is front back =
+    let here = position-Some solid xs start 0 (sym found) in
+    let some : 0 < length line = omega (arith, ap length same, length-drop start xs) in
+    let first : get_or line 0 0 ≡ get_or xs start 0 = ap (λ l. get_or l 0 0) same ∙ get_or-drop start xs 0 0 ∙ ap (λ n. get_or xs n 0) (add-zero start) in
+    cc (words_unblanked xs, end_is solid xs (Some start) found, end_is blank line at is, first_word line some (ap blank first ∙ not-true _ here.1))
 
-pub no_words : (xs line : List ℕ) → line ≡ unblanked xs → length line ≡ 0 → words xs ≡ []
-no_words xs line same none = words_unblanked xs ∙ ap words (sym same) ∙ no_word line none
+pub no_words : (xs : List ℕ) → None ≡ position solid xs → words xs ≡ []
+no_words xs none =
+    let from : length xs ≡ position_or_len solid xs = end_is solid xs None none in
+    words_unblanked xs ∙ no_word (unblanked xs) (omega (arith, length-drop (position_or_len solid xs) xs))
 
 -- no more pieces than bytes
-longer_le : (b n : ℕ) (ps : List (List ℕ)) → length ps ≤ n → length (longer b ps) ≤ suc n
-longer_le b n [] h = omega arith
-longer_le b n (p ∷ ps) h = omega arith
-
 pieces_le : (stop : ℕ → Bool) (xs : List ℕ) → length (pieces stop xs) ≤ length xs
 pieces_le stop [] = omega arith
-pieces_le stop (b ∷ bs) =
-    let rest = pieces_le stop bs in
-    elim (stop b) as (λ v. length (cond v ([] ∷ pieces stop bs) (longer b (pieces stop bs))) ≤ suc (length bs)) [ true ↦ omega arith | false ↦ longer_le b (length bs) (pieces stop bs) rest ]
+pieces_le stop (b ∷ bs) = grind (arith, common_steps, pieces_le stop bs)
 
 nonempty_le : (ps : List (List ℕ)) → length (nonempty ps) ≤ length ps
 nonempty_le [] = omega arith

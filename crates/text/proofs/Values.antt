@@ -1,61 +1,21 @@
 -- The value of digits, one digit after another. Assumes nothing.
-use Rattle.std.proofs.Common.{◌≡◌, ℕ, ◌+◌, ◌-◌, ◌*◌, ◌<◌, ◌≤◌, Bool, true, false, cond, ◌&&◌, leb, List, [], ◌∷◌, length, get_or, drop, Some, None, Option, sym, refl, ap, ◌∙◌, inl, inr, arith}
+use Rattle.std.proofs.Common.{◌≡◌, ℕ, ◌+◌, ◌-◌, ◌*◌, ◌<◌, ◌≤◌, List, [], ◌∷◌, length, get_or, drop, Some, None, refl, arith}
 use Rattle.std.proofs.lemmas.List.{at_drop_more, at_drop_all}
-use Rattle.std.proofs.lemmas.Bool.{cases_Bool, leb-true, leb-false, le-leb, lt-leb}
-use Rattle.text.specs.Decimal.{digit, digits, value_after, fitting, number_after, decimal_of, with_digit}
-
-at_some : (b : Bool) (o : Option ℕ) (v : ℕ) → cond b o None ≡ Some v → (b ≡ true) × (o ≡ Some v)
-at_some true o v h = (refl, h)
-at_some false o v h = let z : ◌≡◌ {A = ℕ} 0 1 = cc in absurd (omega arith)
-
-fits : (n v : ℕ) → fitting n ≡ Some v → (n ≡ v) × (v ≤ 4294967295)
-fits n v h =
-    let p = at_some (leb n 4294967295) (Some n) v h in
-    let is : n ≡ v = let e : ◌≡◌ {A = Option ℕ} (Some n) (Some v) = p.1 in cc in
-    (is, omega (arith, leb-true n 4294967295 p.0))
-
-fitting_small : (n : ℕ) → n ≤ 4294967295 → Some n ≡ fitting n
-fitting_small n h = sym (ap (λ b. cond b (Some n) None) (le-leb n 4294967295 h))
-
-fitting_large : (n : ℕ) → 4294967295 < n → fitting n ≡ None
-fitting_large n h = ap (λ b. cond b (Some n) None) (lt-leb n 4294967295 h)
-
-none_large : (n : ℕ) → fitting n ≡ None → 4294967295 < n
-none_large n h =
-    elim (cases_Bool (leb n 4294967295)) [
-      | inl e ↦ let s = fitting_small n (leb-true n 4294967295 e) ∙ h in let z : ◌≡◌ {A = ℕ} 0 1 = cc in absurd (omega arith)
-      | inr e ↦ leb-false n 4294967295 e
-    ]
+use Rattle.std.proofs.lemmas.Bool.Decides.{nat_tests}
+use Rattle.std.proofs.lemmas.Grind.{common_steps}
+use Rattle.text.specs.Decimal.{value_after, number_after, decimal_of, with_digit}
 
 value_ge : (n : ℕ) (bs : List ℕ) → n ≤ value_after n bs
 value_ge n [] = omega arith
 value_ge n (b ∷ bs) = omega (arith, value_ge (n * 10 + (b - 48)) bs)
 
--- a digit that fits
-number_more : (n b : ℕ) (bs : List ℕ) (v : ℕ) → with_digit n b ≡ Some v → (v ≤ 4294967295) × (number_after n (b ∷ bs) ≡ number_after v bs)
-number_more n b bs v h =
-    let p = at_some (digit b) (fitting (n * 10 + (b - 48))) v h in
-    let q = fits (n * 10 + (b - 48)) v p.1 in
-    (q.1, ap (λ t. cond (t && digits bs) (fitting (value_after (n * 10 + (b - 48)) bs)) None) p.0 ∙ ap (λ m. number_after m bs) q.0)
-
-same_none : (b : Bool) → cond {A = Option ℕ} b None None ≡ None
-same_none true = refl
-same_none false = refl
-
 -- a byte that is no digit, or a number that grows too large
 number_none : (n b : ℕ) (bs : List ℕ) → with_digit n b ≡ None → number_after n (b ∷ bs) ≡ None
-number_none n b bs h =
-    elim (cases_Bool (digit b)) [
-      | inl e ↦
-          let much = none_large (n * 10 + (b - 48)) (ap (λ t. cond t (fitting (n * 10 + (b - 48))) None) (sym e) ∙ h) in
-          ap (λ o. cond (digits (b ∷ bs)) o None) (fitting_large (value_after (n * 10 + (b - 48)) bs) (omega (arith, value_ge (n * 10 + (b - 48)) bs))) ∙ same_none (digits (b ∷ bs))
-      | inr e ↦ ap (λ t. cond (t && digits bs) (fitting (value_after (n * 10 + (b - 48)) bs)) None) e
-    ]
+number_none n b bs h = grind (arith, nat_tests, value_ge)
 
 pub decimal_none : (bs : List ℕ) → length bs ≡ 0 → None ≡ decimal_of bs
 unfolding decimal_of
-decimal_none [] h = refl
-decimal_none (b ∷ bs) h = absurd (omega arith)
+decimal_none bs h = grind (arith, common_steps)
 
 decimal_some : (bs : List ℕ) → 0 < length bs → number_after 0 bs ≡ decimal_of bs
 unfolding decimal_of
@@ -67,17 +27,11 @@ abbrev pub Sofar : List ℕ → ℕ → ℕ → Type 0
 Sofar word i n = (n ≤ 4294967295) × (number_after n (drop i word) ≡ number_after 0 word)
 
 module _ (word : List ℕ) (i n : ℕ) (so : Sofar word i n) where
-  pub sofar_more : (v : ℕ) → i < length word → with_digit n (get_or word i 0) ≡ Some v → Sofar word (i + 1) v
-  sofar_more v h e =
-      let step = at_drop_more (number_after n) word i 0 h in
-      let more = number_more n (get_or word i 0) (drop (i + 1) word) v e in
-      (more.0, sym (step ∙ more.1) ∙ so.1)
-
   pub sofar_none : i < length word → with_digit n (get_or word i 0) ≡ None → None ≡ decimal_of word
-  sofar_none h e =
-      let step = at_drop_more (number_after n) word i 0 h in
-      let none = number_none n (get_or word i 0) (drop (i + 1) word) e in
-      sym (step ∙ none) ∙ so.1 ∙ decimal_some word (omega arith)
+  sofar_none h e = cc (at_drop_more (number_after n) word i 0 h, number_none n (get_or word i 0) (drop (i + 1) word) e, decimal_some word (omega arith))
 
   pub sofar_all : 0 < length word → length word ≤ i → Some n ≡ decimal_of word
-  sofar_all some h = fitting_small n so.0 ∙ sym (at_drop_all (number_after n) word i h) ∙ so.1 ∙ decimal_some word some
+  sofar_all some h =
+      let all = at_drop_all (number_after n) word i h in
+      let is = decimal_some word some in
+      grind (arith, nat_tests)

@@ -1,9 +1,5 @@
 -- A run of bytes cut into pieces. Assumes nothing.
-use Rattle.std.specs.Prelude.{ℕ, Bool, cond, not, List, [], ◌∷◌, ◌==◌}
-
--- any byte but the given one
-abbrev pub other : ℕ → ℕ → Bool
-other stop b = not (b == stop)
+use Rattle.std.specs.Prelude.{ℕ, Bool, cond, List, [], ◌∷◌}
 
 -- one more byte in front of the first piece
 abbrev pub longer : ℕ → List (List ℕ) → List (List ℕ)

@@ -1,15 +1,11 @@
 -- The words of a line. Assumes nothing.
-use Rattle.std.specs.Prelude.{ℕ, Bool, not, ◌||◌, List, [], ◌∷◌, ◌==◌}
+use Rattle.std.specs.Prelude.{ℕ, Bool, ◌||◌, List, [], ◌∷◌, ◌==◌}
 use Rattle.text.specs.declared.words.Words.{Words}
 use Rattle.text.specs.Pieces.{pieces}
 
 -- a space, a tab or a carriage return
 abbrev pub blank : ℕ → Bool
 blank b = b == 32 || b == 9 || b == 13
-
--- a byte of a word
-abbrev pub solid : ℕ → Bool
-solid b = not (blank b)
 
 -- the pieces that hold a byte
 abbrev pub nonempty : List (List ℕ) → List (List ℕ)

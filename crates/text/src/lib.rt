@@ -1,4 +1,4 @@
-// Reads text that goes by lines, as bytes.
+// Reads text that goes by lines, as bytes and no `str`: a shop's file may be in any encoding.
 //
 // The lines of a text are what stands between its newlines; a newline at the very end begins no further line.
 // In a line `#` begins a comment that goes to the line's end.

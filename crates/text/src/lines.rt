@@ -1,18 +1,18 @@
 // The lines of a text, and a line without its comment.
-ghost use Rattle.std.specs.Prelude.{◌≡◌, ◌<◌, ◌≤◌, [], ◌∷◌, length, MatchOption, OnSome};
+ghost use Rattle.std.specs.Prelude.{◌≡◌, ◌≤◌, length};
+ghost use Rattle.std.specs.Iterator.{YieldsFirstRef, item_count};
 ghost use Rattle.text.specs.Lines.{uncommented, lines, lines_left};
 
-use crate::pieces::{before, past};
+use crate::pieces::cut_at;
 
 // The line up to its first `#`, or all of it.
 pub fn uncommented(line: &[u8]) -> &[u8]
     ensures value { result.now ≡ uncommented line.now }
 {
-    let end = before(line, b'#');
-    &line[0..end]
+    cut_at(line, line.iter().position(|b| *b == b'#')).0
 }
 
-// The lines of a text, handed out one at a time.
+// The lines of a text, without their newlines.
 #[derive(Drop)]
 pub struct Lines<'a> {
     rest: &'a [u8],
@@ -26,18 +26,22 @@ impl<'a> Lines<'a> {
     {
         Lines { rest: text }
     }
+}
 
-    // The next line, without its newline, or `None` after the last.
-    pub fn next_line(&mut self) -> Option<&'a [u8]>
-        ensures cases { MatchOption result ((lines_left self.old ≡ []) × (lines_left self.new ≡ [])) (λ line. lines_left self.old ≡ line.now ∷ lines_left self.new) }
-        ensures falls { OnSome result (length (lines_left self.new) < length (lines_left self.old)) }
-    {
+impl<'a> Iterator for Lines<'a> {
+    type Item = &'a [u8];
+
+    ghost next_gives = { YieldsFirstRef lines_left };
+
+    ghost remaining = { item_count lines_left };
+
+    fn next(&mut self) -> Option<&'a [u8]> {
         let text = self.rest;
         if text.is_empty() {
             return None;
         }
-        let end = before(text, b'\n');
-        self.rest = past(text, end);
-        Some(&text[0..end])
+        let (line, rest) = cut_at(text, text.iter().position(|b| *b == b'\n'));
+        self.rest = rest;
+        Some(line)
     }
 }

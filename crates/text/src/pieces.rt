@@ -1,28 +1,14 @@
 // Cuts a run of bytes in two at a byte.
-ghost use Rattle.std.specs.Prelude.{◌≡◌, ◌+◌, ◌≤◌, length, drop};
-ghost use Rattle.std.specs.List.{prefix_len};
-ghost use Rattle.text.specs.Pieces.{other};
+ghost use Rattle.std.specs.Prelude.{◌≡◌, ◌+◌, ◌<◌, length, take, drop, unwrap_or, IfSome};
 
-// How many bytes stand before the first `stop`.
-pub(crate) fn before(bytes: &[u8], stop: u8) -> usize
-    ensures value { result ≡ prefix_len (other stop) bytes.now }
-    ensures within { result ≤ length bytes.now }
+// What stands before the byte at `at`, and what follows that byte; everything stands before `None`.
+pub(crate) fn cut_at(bytes: &[u8], at: Option<usize>) -> (&[u8], &[u8])
+    requires { IfSome at (λ i. i < length bytes.now) }
+    ensures front { result.0.now ≡ take (unwrap_or at (length bytes.now)) bytes.now }
+    ensures back { result.1.now ≡ drop (unwrap_or at (length bytes.now) + 1) bytes.now }
 {
-    for (i, b) in bytes.iter().enumerate() {
-        if *b == stop {
-            return i;
-        }
-    }
-    bytes.len()
-}
-
-// What follows the byte at `at`, if anything does.
-pub(crate) fn past(bytes: &[u8], at: usize) -> &[u8]
-    ensures { result.now ≡ drop (at + 1) bytes.now }
-{
-    if at < bytes.len() {
-        &bytes[at + 1..]
-    } else {
-        &[]
+    match at {
+        Some(at) => (&bytes[..at], &bytes[at + 1..]),
+        None => (bytes, &[]),
     }
 }

@@ -5,27 +5,27 @@ use std::test::Fail;
 #[test]
 fn lines_stand_between_newlines(rt: HostRuntime) {
     let mut lines = Lines::of(b"a\n\nb");
-    assert_eq!(rt; lines.next_line(), Some(&b"a"[..]));
-    assert_eq!(rt; lines.next_line(), Some(&b""[..]));
-    assert_eq!(rt; lines.next_line(), Some(&b"b"[..]));
-    assert_eq!(rt; lines.next_line(), None);
+    assert_eq!(rt; lines.next(), Some(&b"a"[..]));
+    assert_eq!(rt; lines.next(), Some(&b""[..]));
+    assert_eq!(rt; lines.next(), Some(&b"b"[..]));
+    assert_eq!(rt; lines.next(), None);
 }
 
 #[test]
 fn the_last_newline_begins_no_line(rt: HostRuntime) {
-    assert_eq!(rt; Lines::of(b"").next_line(), None);
+    assert_eq!(rt; Lines::of(b"").next(), None);
     let mut lines = Lines::of(b"\n");
-    assert_eq!(rt; lines.next_line(), Some(&b""[..]));
-    assert_eq!(rt; lines.next_line(), None);
+    assert_eq!(rt; lines.next(), Some(&b""[..]));
+    assert_eq!(rt; lines.next(), None);
 }
 
 #[test]
 fn a_carriage_return_parts_words(rt: HostRuntime) -> Result<(), Fail> {
     let mut lines = Lines::of(b"a\r\n");
-    let line = lines.next_line().ok_or("no line")?;
+    let line = lines.next().ok_or("no line")?;
     assert_eq!(rt; line, &b"a\r"[..]);
-    assert_eq!(rt; Words::of(line).next_word(), Some(&b"a"[..]));
-    assert_eq!(rt; lines.next_line(), None);
+    assert_eq!(rt; Words::of(line).next(), Some(&b"a"[..]));
+    assert_eq!(rt; lines.next(), None);
     Ok(())
 }
 
@@ -39,10 +39,10 @@ fn comments_go_to_the_end(rt: HostRuntime) {
 #[test]
 fn words_stand_between_blanks(rt: HostRuntime) {
     let mut words = Words::of(b" ab\t \tc\r");
-    assert_eq!(rt; words.next_word(), Some(&b"ab"[..]));
-    assert_eq!(rt; words.next_word(), Some(&b"c"[..]));
-    assert_eq!(rt; words.next_word(), None);
-    assert_eq!(rt; Words::of(b" \t\r ").next_word(), None);
+    assert_eq!(rt; words.next(), Some(&b"ab"[..]));
+    assert_eq!(rt; words.next(), Some(&b"c"[..]));
+    assert_eq!(rt; words.next(), None);
+    assert_eq!(rt; Words::of(b" \t\r ").next(), None);
 }
 
 #[test]

@@ -1,9 +1,9 @@
 // The words of a line.
-ghost use Rattle.std.specs.Prelude.{◌≡◌, ◌<◌, ◌≤◌, [], ◌∷◌, length, MatchOption, OnSome};
-ghost use Rattle.std.specs.List.{prefix_len};
-ghost use Rattle.text.specs.Words.{blank, solid, words, words_left};
+ghost use Rattle.std.specs.Prelude.{◌≡◌, ◌≤◌, length};
+ghost use Rattle.std.specs.Iterator.{YieldsFirstRef, item_count};
+ghost use Rattle.text.specs.Words.{blank, words, words_left};
 
-use crate::pieces::past;
+use crate::pieces::cut_at;
 
 // Whether a byte parts words.
 pub fn is_blank(b: u8) -> bool
@@ -12,33 +12,7 @@ pub fn is_blank(b: u8) -> bool
     matches!(b, b' ' | b'\t' | b'\r')
 }
 
-// How many blanks stand at the front.
-fn blanks(line: &[u8]) -> usize
-    ensures value { result ≡ prefix_len blank line.now }
-    ensures within { result ≤ length line.now }
-{
-    for (i, b) in line.iter().enumerate() {
-        if !is_blank(*b) {
-            return i;
-        }
-    }
-    line.len()
-}
-
-// How many bytes stand before the first blank.
-fn word_len(line: &[u8]) -> usize
-    ensures value { result ≡ prefix_len solid line.now }
-    ensures within { result ≤ length line.now }
-{
-    for (i, b) in line.iter().enumerate() {
-        if is_blank(*b) {
-            return i;
-        }
-    }
-    line.len()
-}
-
-// The words of a line, handed out one at a time.
+// The words of a line, from the first on. Not one with `Lines`: a word is sought behind blanks, and is never empty.
 #[derive(Drop)]
 pub struct Words<'a> {
     rest: &'a [u8],
@@ -52,19 +26,20 @@ impl<'a> Words<'a> {
     {
         Words { rest: line }
     }
+}
 
-    // The next word, or `None` after the last.
-    pub fn next_word(&mut self) -> Option<&'a [u8]>
-        ensures cases { MatchOption result ((words_left self.old ≡ []) × (words_left self.new ≡ [])) (λ word. words_left self.old ≡ word.now ∷ words_left self.new) }
-        ensures falls { OnSome result (length (words_left self.new) < length (words_left self.old)) }
-    {
-        let start = blanks(self.rest);
+impl<'a> Iterator for Words<'a> {
+    type Item = &'a [u8];
+
+    ghost next_gives = { YieldsFirstRef words_left };
+
+    ghost remaining = { item_count words_left };
+
+    fn next(&mut self) -> Option<&'a [u8]> {
+        let start = self.rest.iter().position(|b| !is_blank(*b))?;
         let line = &self.rest[start..];
-        if line.is_empty() {
-            return None;
-        }
-        let end = word_len(line);
-        self.rest = past(line, end);
-        Some(&line[0..end])
+        let (word, rest) = cut_at(line, line.iter().position(|b| is_blank(*b)));
+        self.rest = rest;
+        Some(word)
     }
 }

@@ -7,7 +7,7 @@ ghost use Rattle.units.specs.Spans.{spanned, has, Has, within, Within, meet, Mee
 #[cfg(test)]
 mod tests;
 
-// What is counted by a number of its own.
+// What is counted by a number of its own. No `Into<u32>`: the laws of spans need the number as a function.
 pub trait Countable {
     // which of its kind it is
     ghost count: { Self → ℕ };
@@ -28,6 +28,7 @@ pub struct StationByte(pub u16);
 #[derive(Clone, Copy, Debug, PartialEq, Eq)]
 pub struct LinePosition(pub u16);
 
+// Three impls alike, and no one generic unit: the types are there so that no kind is taken for another.
 impl Countable for ImageBit {
     ghost count = { λ unit. unit.0 };
 

@@ -1,28 +1,24 @@
-use Rattle.std.proofs.Common.{◌≡◌, ℕ, ◌+◌, List, ◌++◌, length, take, drop, ap, ◌∙◌, subst, append_assoc, arith}
+use Rattle.std.proofs.Common.{◌≡◌, ◌+◌, ◌≤◌, ℕ, List, ◌++◌, length, refl, ap, ◌∙◌, append_assoc, arith, rules}
+use Rattle.std.proofs.lemmas.List.{length-append}
 use Rattle.frame.specs.Datagrams.{fields_of}
-use Rattle.frame_writer.specs.Encoding.{header, trailer}
-use Rattle.frame_writer.proofs.Steps.{further}
+use Rattle.frame_writer.specs.Encoding.{header, trailer, laid_at}
+use Rattle.frame_writer.proofs.Steps.{laid_more}
 use Rattle.frame_writer.proofs.encoding.put.Goals as goal
 
-front : (b b1 b2 b3 : List ℕ) (a n : ℕ) (h d t : List ℕ) → take (a + 10) b1 ≡ take a b ++ h → take (a + 10 + n) b2 ≡ take (a + 10) b1 ++ d → take (a + 10 + n + 2) b3 ≡ take (a + 10 + n) b2 ++ t → take (a + (n + 12)) b3 ≡ take a b ++ (h ++ (d ++ t))
-front b b1 b2 b3 a n h d t p q r =
-    let e : a + (n + 12) ≡ a + 10 + n + 2 = omega arith in
-    ap (λ k. take k b3) e ∙ r ∙ ap (λ x. x ++ t) (q ∙ ap (λ x. x ++ d) p) ∙ append_assoc (take a b ++ h) d t ∙ append_assoc (take a b) h (d ++ t)
+laid_three : (b b1 b2 b3 h d t : List ℕ) (a : ℕ) → b1 ≡ laid_at a h b → b2 ≡ laid_at (a + length h) d b1 → b3 ≡ laid_at (a + length h + length d) t b2 → a + length h + length d ≤ length b → b3 ≡ laid_at a (h ++ (d ++ t)) b
+laid_three b b1 b2 b3 h d t a p q r long =
+    let l = length-append h d in
+    r
+    ∙ ap (laid_at (a + length h + length d) t) (q ∙ ap (laid_at (a + length h) d) p ∙ laid_more b h d a (a + length h) refl (omega arith))
+    ∙ laid_more b (h ++ d) t a (a + length h + length d) (omega arith) long
+    ∙ ap (λ x. laid_at a x b) (append_assoc h d t)
 
 pub returns : goal.returns
 returns c =
-    let a = c.args.at in
-    let n = length c.args.datagram.now.«data».now in
-    let h = header (fields_of c.args.datagram.now) 128 in
-    let e : c.header_bytes-header.result ≡ header (fields_of c.args.datagram.now) 128 = c.header_bytes-header.ensures in
-    let pasted : take (c.args.at + 10) c.paste_at.new.buffer ≡ take c.args.at c.args.buffer.now ++ header (fields_of c.args.datagram.now) 128 =
-    subst (λ (x : List ℕ). take (c.args.at + length x) c.paste_at.new.buffer ≡ take c.args.at c.args.buffer.now ++ x) e c.paste_at.ensures.front in
-    let rest : drop (c.args.at + 10) c.paste_at.new.buffer ≡ drop (c.args.at + 10) c.args.buffer.now =
-    subst (λ (x : List ℕ). drop (c.args.at + length x) c.paste_at.new.buffer ≡ drop (c.args.at + length x) c.args.buffer.now) e c.paste_at.ensures.back in
-    record {
-      front = front c.args.buffer.now c.paste_at.new.buffer c.paste_at-2.new.buffer c.paste_at-3.new.buffer c.args.at (length c.args.datagram.now.«data».now) (header (fields_of c.args.datagram.now) 128) c.args.datagram.now.«data».now (trailer (fields_of c.args.datagram.now)) pasted c.paste_at-2.ensures.front c.paste_at-3.ensures.front;
-      back =
-          further c.paste_at-3.new.buffer c.paste_at-2.new.buffer (c.args.at + 10 + length c.args.datagram.now.«data».now + 2) 0 (c.args.at + (length c.args.datagram.now.«data».now + 12)) (omega arith) c.paste_at-3.ensures.back
-          ∙ further c.paste_at-2.new.buffer c.paste_at.new.buffer (c.args.at + 10 + length c.args.datagram.now.«data».now) 2 (c.args.at + (length c.args.datagram.now.«data».now + 12)) (omega arith) c.paste_at-2.ensures.back
-          ∙ further c.paste_at.new.buffer c.args.buffer.now (c.args.at + 10) (length c.args.datagram.now.«data».now + 2) (c.args.at + (length c.args.datagram.now.«data».now + 12)) (omega arith) rest;
-    }
+    let d = c.args.datagram.now in
+    let t : c.to_le_bytes-trailer.result ≡ trailer (fields_of c.args.datagram.now) = search rules in
+    laid_three c.args.buffer.now _ _ _ (header (fields_of d) 128) d.«data».now (trailer (fields_of d)) c.args.at
+    (c.paste_at.ensures ∙ ap (λ x. laid_at c.args.at x c.args.buffer.now) c.header_bytes-header.ensures)
+    c.paste_at-2.ensures
+    (c.paste_at-3.ensures ∙ ap (λ x. laid_at (c.args.at + 10 + length d.«data».now) x c.paste_at-2.new.buffer) t)
+    (omega arith)

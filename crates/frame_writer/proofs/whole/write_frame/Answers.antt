@@ -1,50 +1,23 @@
-use Rattle.std.proofs.Common.{◌≡◌, ℕ, List, map, length, take, sym, refl, ap, ◌∙◌, subst, arith, rules, MatchResult}
+use Rattle.std.proofs.Common.{map, sym, ap, ◌∙◌, rules}
+use Rattle.std.proofs.lemmas.List.{drop_all}
 use Rattle.frame.specs.Datagrams.{fields_of}
-use Rattle.frame_writer.specs.Adding.{write_answer}
-use Rattle.frame_writer.specs.Frames.{Written}
-use Rattle.frame_writer.proofs.Lists.{slice_adds, slice_more, slice_all, finished, back}
+use Rattle.frame_writer.proofs.Lists.{under_at, under_adds, under_more, served, finished}
 use Rattle.frame_writer.proofs.whole.write_frame.Goals as goal
-
-pub loop-datagram-init : goal.loop-datagram-init
-loop-datagram-init c =
-    let b = c.over-writer.ensures.bytes in (
-      record {
-        held = c.over-writer.ensures.held;
-        parts = refl;
-        long = omega (arith, ap length b, c.if-bytes-lt-MAX_FRAME_BYTES.false);
-        behind = refl;
-      },
-      refl,
-      refl,
-    )
 
 pub loop-datagram-preserved : goal.loop-datagram-preserved
 loop-datagram-preserved c =
-    let inv = c.loop-datagram.invariant in
     let e = c.in_ok-add.ensures in
-    let held = e.held (map fields_of (take c.loop-datagram.datagram-index c.args.datagrams.now)) inv.0.held in (
-      slice_more c.args.datagrams.now c.over-writer.result.buffer.now c.loop-datagram.writer c.add.new.self c.loop-datagram.datagram-index _ c.loop-datagram-test.true inv.0 held e.len e.behind,
-      e.len ∙ inv.1,
-      e.same ∙ inv.2,
-    )
+    let u = under_at c.args.datagrams.now c.loop-datagram.datagram-index _ c.loop-datagram-test.true c.loop-datagram.invariant.under in
+    record { under = under_more u e.held e.len e.behind; same = e.same ∙ c.loop-datagram.invariant.same }
 
 -- no addition is refused, since the list was judged
 pub returns-in_err-add : goal.returns-in_err-add
 returns-in_err-add c =
-    let ok = slice_adds c.args.datagrams.now c.over-writer.result.buffer.now c.loop-datagram.writer c.loop-datagram.datagram-index _ c.in_default.ensures c.loop-datagram-test.true c.loop-datagram.invariant.0 in
-    let e = c.in_err-add.ensures.value ∙ ok in
-    let z : ◌≡◌ {A = ℕ} 0 1 = cc in
-    absurd (omega arith)
+    let u = under_at c.args.datagrams.now c.loop-datagram.datagram-index _ c.loop-datagram-test.true c.loop-datagram.invariant.under in
+    let e = c.in_err-add.ensures.value ∙ under_adds (sym c.in_ok-check_list.ensures) (served c.in_ok-check_buffer.ensures) u in
+    absurd (cc)
 
-pub returns : goal.returns
-returns c =
-    let inv = c.loop-datagram.invariant in
-    let start = c.over-writer.ensures.bytes in
-    let u = slice_all c.args.datagrams.now c.over-writer.result.buffer.now c.loop-datagram.writer c.loop-datagram.datagram-index c.loop-datagram-test.false inv.0 in
-    let f = finished (map fields_of c.args.datagrams.now) c.over-writer.result.buffer.now c.loop-datagram.writer c.finish.new.self.0 c.finish.result (sym c.in_default.ensures) inv.1 u c.finish.ensures.value c.finish.ensures.cases in
-    let m = subst (λ (b : List ℕ). MatchResult c.finish.result (λ n. Written b (map fields_of c.args.datagrams.now) n c.finish.new.self.0) (λ _. c.finish.new.self.0 ≡ b)) start f.1 in
-    let same = inv.2 ∙ c.over-writer.ensures.same in
-    record {
-      value = f.0 ∙ ap (λ b. write_answer (length b) (map fields_of c.args.datagrams.now)) start;
-      cases = back (λ b. MatchResult c.finish.result (λ n. Written c.args.buffer.now (map fields_of c.args.datagrams.now) n b) (λ _. b ≡ c.args.buffer.now)) m (search rules);
-    }
+pub returns-clause-cases : goal.returns-clause-cases
+returns-clause-cases c =
+    let none = ap (map fields_of) (drop_all c.loop-datagram.datagram-index c.args.datagrams.now c.loop-datagram-test.false) in
+    (finished c.finish.result (sym c.in_ok-check_list.ensures) (served c.in_ok-check_buffer.ensures) c.loop-datagram.invariant.under none c.finish.ensures.value c.finish.ensures.cases (search rules)).1

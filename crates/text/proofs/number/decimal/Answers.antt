@@ -1,13 +1,10 @@
 use Rattle.std.proofs.Common.{length, sym, ◌∙◌, arith}
 use Rattle.std.proofs.lemmas.Bool.{eqb-true, eqb-false}
-use Rattle.text.proofs.Values.{decimal_none, sofar_more, sofar_none, sofar_all}
+use Rattle.text.proofs.Values.{decimal_none, sofar_none, sofar_all}
 use Rattle.text.proofs.number.decimal.Goals as goal
 
 pub returns-then-is_empty : goal.returns-then-is_empty
 returns-then-is_empty c = record { value = decimal_none c.args.word.now (eqb-true _ _ (sym c.if-is_empty.ensures)) }
-
-pub loop-b-preserved : goal.loop-b-preserved
-loop-b-preserved c = sofar_more c.args.word.now c.loop-b.b-index c.loop-b.value c.loop-b.invariant c.in_ok-value.value c.loop-b-test.true (sym c.in_ok-value.ensures)
 
 pub returns-in_err-value : goal.returns-in_err-value
 returns-in_err-value c =

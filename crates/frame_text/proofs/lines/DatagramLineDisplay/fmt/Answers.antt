@@ -1,10 +1,12 @@
-use Rattle.std.proofs.Output.{has_written_of_eq}
-use Rattle.frame.specs.Datagrams.{fields_of}
+use Rattle.std.proofs.Common.{Some, arith}
 use Rattle.frame_text.specs.Lines.{line_for}
+use Rattle.frame_text.proofs.Widths.{shown2, shown4, displayed}
 use Rattle.frame_text.proofs.lines.DatagramLineDisplay.fmt.Goals as goal
 
 pub returns-clause-writes : goal.returns-clause-writes
-returns-clause-writes g c = λ plain ok.
+returns-clause-writes g c =
     let at = c.datagram_offset.ensures in
     let says = c.datagram-datagram.ensures in
-    has_written_of_eq g.W.Write.write_str_gives c.args.f.now (line_for c.datagram_offset.result (fields_of c.datagram-datagram.result)) _ c.write.new.self (λ i. line_for (at i) (says i)) (c.write.ensures.writes plain ok)
+    let index = shown2 c.datagram-datagram.result.index c.in_radix.result c.laid_out.result (omega arith) c.in_radix.ensures c.laid_out.ensures in
+    let irq = shown4 c.datagram-datagram.result.irq c.in_radix-2.result c.laid_out-2.result (omega arith) c.in_radix-2.ensures c.laid_out-2.ensures in
+    displayed _ _ _ _ _ _ (rw (index, irq) (λ i. Some (line_for (at i) (says i)))) c.write.ensures.writes

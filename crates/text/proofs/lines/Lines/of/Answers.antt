@@ -1,6 +1,5 @@
-use Rattle.std.proofs.Common.{refl}
 use Rattle.text.proofs.Cuts.{lines_le}
 use Rattle.text.proofs.lines.Lines.of.Goals as goal
 
-pub returns : goal.returns
-returns c = record { left = refl; bound = lines_le c.args.text.now }
+pub returns-clause-bound : goal.returns-clause-bound
+returns-clause-bound c = lines_le c.args.text.now

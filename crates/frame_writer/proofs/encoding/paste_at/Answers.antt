@@ -1,6 +1,0 @@
-use Rattle.std.proofs.Common.{rules}
-use Rattle.std.proofs.lemmas.Slice.{overwrites}
-use Rattle.frame_writer.proofs.encoding.paste_at.Goals as goal
-
-pub returns : goal.returns
-returns c = record { front = search (rules, overwrites); back = search (rules, overwrites) }
