@@ -1,12 +1,14 @@
 -- What a frame's header says of its datagrams. Assumes nothing.
-use Rattle.std.proofs.Common.{◌≡◌, ℕ, suc, ◌+◌, ◌/◌, ◌<◌, ◌≤◌, min, List, length, take, drop, Some, None, Ok, Err, Result, sym, ap, ◌∙◌, arith, length-drop, length-take}
+use Rattle.std.proofs.Common.{◌≡◌, ℕ, suc, ◌+◌, ◌/◌, ◌<◌, ◌≤◌, min, List, length, take, drop, Some, None, Ok, Err, Result, sym, ap, ◌∙◌, arith}
 use Rattle.std.proofs.lemmas.List.{take_min, drop-take}
+use Rattle.std.specs.List.{between}
+use Rattle.std.proofs.lemmas.Slice.{between_is}
+use Rattle.std.proofs.lemmas.List.Edits.{length-between}
 use Rattle.std.proofs.lemmas.Bool.Decides.{nat_tests}
 use Rattle.frame.specs.declared.faults.FrameFault.{FrameFault}
 use Rattle.frame.specs.Words.{word}
 use Rattle.frame.specs.Judging.{ether_type, ether_cat, area_size, area_of, headed, and_then, judged, judge_area, fault_of}
-use Rattle.frame.specs.Reading.{handed_from, handed}
-use Rattle.frame.proofs.Walk.{accepted}
+use Rattle.frame.proofs.Walk.{Accepted, accepted}
 
 -- what is known of a frame that is sound but for its datagrams
 pub record Headed (bytes : List ℕ) (z : ℕ) : Type 0 where
@@ -32,21 +34,20 @@ pub headed_clear : (bytes : List ℕ) (z : ℕ) → Headed bytes z → headed by
 headed_clear bytes z h = grind (arith, nat_tests)
 
 -- the datagrams that are there, cut off at the end of the frame if that comes first
-area_is : (bytes area : List ℕ) (z end : ℕ) → Ok z ≡ headed bytes → end ≡ min (16 + z) (length bytes) → area ≡ drop 16 (take end bytes) → area ≡ area_of bytes
-area_is bytes area z end h e d =
-    d ∙ ap (λ n. drop 16 (take n bytes)) e ∙ ap (drop 16) (take_min (16 + z) bytes) ∙ drop-take 16 z bytes
+area_is : (bytes : List ℕ) (z end : ℕ) → Ok z ≡ headed bytes → end ≡ min (16 + z) (length bytes) → between 16 end bytes ≡ area_of bytes
+area_is bytes z end h e =
+    between_is bytes 16 end ∙ ap (λ n. drop 16 (take n bytes)) e ∙ ap (drop 16) (take_min (16 + z) bytes) ∙ drop-take 16 z bytes
     ∙ ap (λ n. take n (drop 16 bytes)) (sym (headed_sound bytes z (sym h)).size)
 
-pub judged_area : (bytes area : List ℕ) (z end : ℕ) → Ok z ≡ headed bytes → end ≡ min (16 + z) (length bytes) → area ≡ drop 16 (take end bytes) → judge_area area z 16 ≡ judged bytes
-judged_area bytes area z end h e d =
-    ap (λ a. judge_area a z 16) (area_is bytes area z end h e d) ∙ ap (λ r. and_then r (λ n. judge_area (area_of bytes) n 16)) h
+pub judged_area : (bytes : List ℕ) (z end : ℕ) → Ok z ≡ headed bytes → end ≡ min (16 + z) (length bytes) → judge_area (between 16 end bytes) z 16 ≡ judged bytes
+judged_area bytes z end h e =
+    ap (λ a. judge_area a z 16) (area_is bytes z end h e) ∙ ap (λ r. and_then r (λ n. judge_area (area_of bytes) n 16)) h
 
--- what an accepted frame's reader will hand out
-pub judged_read : (bytes area : List ℕ) (z end : ℕ) → Ok z ≡ headed bytes → end ≡ min (16 + z) (length bytes) → area ≡ drop 16 (take end bytes) → None ≡ fault_of (judge_area area z 16) → Ok (handed_from (take end bytes) 16) ≡ judged bytes
-judged_read bytes area z end h e d clear =
-    let within : length area ≤ z = omega (arith, simp (length-drop, length-take) at (ap length d)) in
-    let a = accepted (suc (length area)) area z 16 within (omega arith) (sym clear) in
-    ap (λ x. Ok (handed (suc (length x)) x 16)) (sym d) ∙ sym a.given ∙ judged_area bytes area z end h e d
+-- an area with no fault is there to its end, and what its reader will hand out are the datagrams of the frame
+pub area_accepted : (bytes : List ℕ) (z end : ℕ) → end ≡ min (16 + z) (length bytes) → None ≡ fault_of (judge_area (between 16 end bytes) z 16) → Accepted (suc (length (between 16 end bytes))) (between 16 end bytes) z 16
+area_accepted bytes z end e clear =
+    let within : length (between 16 end bytes) ≤ z = omega (arith, length-between bytes 16 end (omega arith)) in
+    accepted (suc (length (between 16 end bytes))) (between 16 end bytes) z 16 within (omega arith) (sym clear)
 
 pub fault_known : {X : Type 0} (e : FrameFault) (r : Result X FrameFault) → Some e ≡ fault_of r → Err e ≡ r
 fault_known e (Ok x) h = absurd cc

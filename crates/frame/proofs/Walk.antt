@@ -1,7 +1,7 @@
 -- A walk over the datagrams of an area. Assumes nothing.
 use Rattle.std.proofs.Common.{◌≡◌, ℕ, zero, suc, ◌+◌, ◌-◌, ◌<◌, ◌≤◌, cond, eqb, List, [], ◌∷◌, length, drop, Some, None, Ok, Err, Option, Result, sym, refl, ap, ◌∙◌, inl, inr, arith, length-drop}
 use Rattle.std.proofs.lemmas.Bool.{eq-eqb, ne_eqb, cases_eq}
-use Rattle.std.proofs.lemmas.List.{drop_all, drop-drop}
+use Rattle.std.proofs.lemmas.List.{drop_all}
 use Rattle.frame.specs.declared.faults.FrameFault.{FrameFault}
 use Rattle.frame.specs.declared.areas.Area.{Area}
 use Rattle.frame.specs.declared.datagrams.Token.{Token}
@@ -71,13 +71,14 @@ handed_none (suc f) p = refl
 handed_front : (f : ℕ) (area : List ℕ) (p : ℕ) → front_fault area (length area) p ≡ None → handed (suc f) area p ≡ placed_at area p ∷ handed f (drop (size area) area) (p + size area)
 handed_front f area p h = rw h
 
-pub handed_more : (bytes : List ℕ) (a b : Area) (t : Token) → a.bytes.now ≡ drop a.at bytes → a.left ≡ length a.bytes.now → None ≡ front_fault a.bytes.now a.left a.at → SplitsInto a t b → handed_from bytes a.at ≡ placed_of t ∷ handed_from bytes b.at
-handed_more bytes a b t e whole h s =
-    let k = handed_front (length a.bytes.now) a.bytes.now a.at (sym (h ∙ (λ i. front_fault a.bytes.now (whole i) a.at))) in
-    let d = s.bytes ∙ ap (drop (size a.bytes.now)) e ∙ drop-drop (size a.bytes.now) a.at bytes ∙ ap (λ n. drop n bytes) (sym s.at) in
-    let same = handed-same (length a.bytes.now) (suc (length b.bytes.now)) b.bytes.now b.at s.shorter (omega arith) in
-    let g = s.front in
-    cc
+pub handed_more : (a b : Area) (t : Token) → length a.bytes.now ≡ a.left → None ≡ front_fault a.bytes.now a.left a.at → SplitsInto a t b → handed_from a.bytes.now a.at ≡ placed_of t ∷ handed_from b.bytes.now b.at
+handed_more a b t whole h s =
+    let front = s.front in
+    let bytes = s.bytes in
+    let at = s.at in
+    handed_front (length a.bytes.now) a.bytes.now a.at ((λ i. front_fault a.bytes.now (whole i) a.at) ∙ sym h)
+    ∙ (λ i. sym front i ∷ handed (length a.bytes.now) (sym bytes i) (sym at i))
+    ∙ ap (λ ds. placed_of t ∷ ds) (handed-same (length a.bytes.now) (suc (length b.bytes.now)) b.bytes.now b.at s.shorter (omega arith))
 
 -- an area with no fault ends where its header says, and its datagrams are handed out
 pub record Accepted (f : ℕ) (area : List ℕ) (z p : ℕ) : Type 0 where

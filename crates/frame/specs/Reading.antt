@@ -15,13 +15,13 @@ abbrev pub handed : ℕ → List ℕ → ℕ → List Placed
 handed zero area p = []
 handed (suc f) area p = if_none (front_fault area (length area) p) (placed_at area p ∷ handed f (drop (size area) area) (p + size area))
 
--- the same of the bytes from p on
+-- the same with no bound
 abbrev pub handed_from : List ℕ → ℕ → List Placed
-handed_from bytes p = handed (suc (length (drop p bytes))) (drop p bytes) p
+handed_from area p = handed (suc (length area)) area p
 
 -- the datagrams that are still to be handed out
 abbrev pub left : Tokens → List Placed
-left ts = handed_from ts.frame.now ts.at
+left ts = handed_from ts.rest.bytes.now ts.rest.at
 
 -- what a reader answers: the datagrams that it will hand out, or the fault
 abbrev pub outcome : Result Tokens FrameFault → Result (List Placed) FrameFault

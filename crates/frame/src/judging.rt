@@ -1,14 +1,17 @@
-// Judges a frame itself, before its datagrams.
+// Judges a frame: first the frame itself, then its datagrams in turn.
 ghost use Rattle.std.specs.Prelude.{◌≡◌};
-ghost use Rattle.frame.specs.Judging.{headed};
+ghost use Rattle.frame.specs.Judging.{headed, judged};
+ghost use Rattle.frame.specs.Reading.{outcome};
 
+use crate::areas::Area;
 use crate::faults::FrameFault;
-use crate::limits::{MAX_FRAME_BYTES, MIN_FRAME_BYTES};
+use crate::limits::{FRAME_HEADER_BYTES, MAX_FRAME_BYTES, MIN_FRAME_BYTES};
+use crate::reading::Tokens;
 
 const ETHERCAT: u16 = 0x88a4;
 
 // How many bytes of datagrams there are by the frame's header, if the frame itself is sound.
-pub(crate) fn area_bytes(bytes: &[u8]) -> Result<usize, FrameFault>
+fn area_bytes(bytes: &[u8]) -> Result<usize, FrameFault>
     ensures { result ≡ headed bytes.now }
 {
     if !(MIN_FRAME_BYTES..=MAX_FRAME_BYTES).contains(&bytes.len()) {
@@ -27,4 +30,19 @@ pub(crate) fn area_bytes(bytes: &[u8]) -> Result<usize, FrameFault>
         0 => Err(FrameFault::Empty),
         size => Ok(usize::from(size)),
     }
+}
+
+// Judges a whole frame. Its datagrams are then handed out in turn.
+pub fn read_frame(bytes: &[u8]) -> Result<Tokens<'_>, FrameFault>
+    ensures { outcome result ≡ judged bytes.now }
+{
+    let promised = area_bytes(bytes)?;
+    let end = (FRAME_HEADER_BYTES + promised).min(bytes.len());
+    let area = Area {
+        bytes: &bytes[FRAME_HEADER_BYTES..end],
+        left: promised,
+        at: FRAME_HEADER_BYTES,
+    };
+    area.check()?;
+    Ok(Tokens { rest: area })
 }

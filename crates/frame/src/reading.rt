@@ -1,44 +1,22 @@
-// Reads the datagrams of a frame, in place.
-ghost use Rattle.std.specs.Prelude.{◌≡◌};
-ghost use Rattle.frame.specs.Judging.{judged};
-ghost use Rattle.frame.specs.Reading.{left, outcome, Stepped};
-ghost use Rattle.std.specs.Iterator.{item_count};
+// Hands out the datagrams of a frame, in place.
+ghost use Rattle.std.specs.Prelude.{◌≡◌, length};
 
 use crate::areas::Area;
 use crate::datagrams::Token;
-use crate::faults::FrameFault;
-use crate::judging::area_bytes;
-use crate::limits::FRAME_HEADER_BYTES;
+pub use crate::judging::read_frame;
 
 // The datagrams of a frame, handed out one at a time.
 #[derive(Drop)]
 pub struct Tokens<'a> {
-    // the frame up to the end of its datagrams
-    frame: &'a [u8],
-    // where the next datagram begins
-    at: usize,
-}
-
-// Judges a whole frame. Its datagrams are then handed out in turn.
-pub fn read_frame(bytes: &[u8]) -> Result<Tokens<'_>, FrameFault>
-    ensures { outcome result ≡ judged bytes.now }
-{
-    let promised = area_bytes(bytes)?;
-    let end = (FRAME_HEADER_BYTES + promised).min(bytes.len());
-    let frame = &bytes[..end];
-    let area = Area {
-        bytes: &frame[FRAME_HEADER_BYTES..],
-        left: promised,
-        at: FRAME_HEADER_BYTES,
-    };
-    area.check()?;
-    Ok(Tokens {
-        frame,
-        at: FRAME_HEADER_BYTES,
-    })
+    // those that are left, all of which are there
+    pub(crate) rest: Area<'a>,
+    ghost whole: { length rest.bytes.now ≡ rest.left },
 }
 
 impl<'a> Iterator for Tokens<'a> {
+    ghost use Rattle.std.specs.Iterator.{item_count};
+    ghost use Rattle.frame.specs.Reading.{left, Stepped};
+
     type Item = Token<'a>;
 
     ghost next_gives = { Stepped };
@@ -46,16 +24,10 @@ impl<'a> Iterator for Tokens<'a> {
     ghost remaining = { item_count left };
 
     fn next(&mut self) -> Option<Token<'a>> {
-        let bytes = self.frame.get(self.at..)?;
-        let area = Area {
-            bytes,
-            left: bytes.len(),
-            at: self.at,
-        };
-        let Ok((token, rest)) = area.split() else {
+        let Ok((token, rest)) = self.rest.split() else {
             return None;
         };
-        self.at = rest.at;
+        self.rest = rest;
         Some(token)
     }
 }
