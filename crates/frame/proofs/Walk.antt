@@ -1,14 +1,15 @@
 -- A walk over the datagrams of an area. Assumes nothing.
-use Rattle.std.proofs.Common.{◌≡◌, ℕ, zero, suc, ◌+◌, ◌-◌, ◌<◌, ◌≤◌, cond, eqb, List, [], ◌∷◌, length, drop, Some, None, Ok, Err, Option, Result, sym, refl, ap, ◌∙◌, inl, inr, arith, length-drop}
+use Rattle.std.proofs.Common.{◌≡◌, ℕ, zero, suc, ◌+◌, ◌-◌, ◌^◌, ◌<◌, ◌≤◌, cond, eqb, List, [], ◌∷◌, length, drop, Some, None, Ok, Err, Option, Result, sym, refl, ap, ◌∙◌, inl, inr, arith, length-drop}
 use Rattle.std.proofs.lemmas.Bool.{eq-eqb, ne_eqb, cases_eq}
 use Rattle.std.proofs.lemmas.List.{drop_all}
 use Rattle.frame.specs.declared.faults.FrameFault.{FrameFault}
 use Rattle.frame.specs.declared.areas.Area.{Area}
 use Rattle.frame.specs.declared.datagrams.Token.{Token}
+use Rattle.frame.specs.declared.reading.Tokens.{Tokens}
 use Rattle.frame.specs.Areas.{SplitsInto}
 use Rattle.frame.specs.Datagrams.{Placed, size, placed_of, placed_at}
 use Rattle.frame.specs.Judging.{front_fault, unless, before, judge, judge_area, fault_of}
-use Rattle.frame.specs.Reading.{if_none, handed, handed_from}
+use Rattle.frame.specs.Reading.{if_none, handed, handed_from, left}
 use Rattle.frame.proofs.Fronts.{fine}
 
 unless-same : {X : Type 0} (o : Option FrameFault) (r s : Result X FrameFault) → (o ≡ None → r ≡ s) → unless o r ≡ unless o s
@@ -79,6 +80,28 @@ handed_more a b t whole h s =
     handed_front (length a.bytes.now) a.bytes.now a.at ((λ i. front_fault a.bytes.now (whole i) a.at) ∙ sym h)
     ∙ (λ i. sym front i ∷ handed (length a.bytes.now) (sym bytes i) (sym at i))
     ∙ ap (λ ds. placed_of t ∷ ds) (handed-same (length a.bytes.now) (suc (length b.bytes.now)) b.bytes.now b.at s.shorter (omega arith))
+
+none_few : (o : Option FrameFault) (ds : List Placed) (n : ℕ) → (o ≡ None → length ds ≤ n) → length (if_none o ds) ≤ n
+none_few (Some e) ds n h = omega arith
+none_few None ds n h = h refl
+
+-- no more datagrams than bytes
+handed_few : (f : ℕ) (area : List ℕ) (p : ℕ) → length (handed f area p) ≤ length area
+handed_few zero area p = omega arith
+handed_few (suc f) area p =
+    none_few (front_fault area (length area) p) _ (length area) (λ e.
+    let ok = (fine area (length area) p e).sized.fits in
+    let l = length-drop (size area) area in
+    let k = handed_few f (drop (size area) area) (p + size area) in
+    omega arith)
+
+-- so a count of them fits
+pub left_fits : (ts : Tokens) → length (left ts) < 2 ^ 64
+left_fits ts =
+    let k = handed_few (suc (length ts.rest.bytes.now)) ts.rest.bytes.now ts.rest.at in
+    let w = ts.rest.within in
+    let f = ts.rest.fits in
+    omega arith
 
 -- an area with no fault ends where its header says, and its datagrams are handed out
 pub record Accepted (f : ℕ) (area : List ℕ) (z p : ℕ) : Type 0 where
