@@ -61,9 +61,7 @@ fn the_frame_itself_comes_first(rt: HostRuntime) -> Result<(), Fail> {
 fn bytes_that_are_not_judged(rt: HostRuntime) -> Result<(), Fail> {
     let heap = rt.alloc();
     let mut bytes = frame(heap, 29, &TWO, 45)?;
-    for b in 0..100u8 {
-        bytes.push(b)?;
-    }
+    bytes.extend(0..100u8)?;
     assert_eq!(rt; judged(bytes.as_slice()), Ok(2), "behind the datagrams");
     assert!(rt; bytes.len() > 12);
     bytes[0] = 1;

@@ -15,6 +15,7 @@ pub enum HexError {
     Memory,
 }
 
+// Written out: a derive would not say which case is made.
 impl<T: Drop> From<NoRoom<T>> for HexError {
     ghost from_gives = { λ _ e. e ≡ Memory };
 

@@ -1,6 +1,5 @@
 // A plan whose stations may have names.
-ghost use Rattle.std.specs.Prelude.{◌≡◌, length, vec_len};
-ghost use Rattle.plan.specs.Building.{stations_of};
+ghost use Rattle.std.specs.Prelude.{◌≡◌};
 
 use crate::reading::ReadError;
 use crate::said::StationLine;

@@ -47,6 +47,7 @@ pub fn read_line(line: &[u8]) -> Result<Line<'_>, Expected>
     ensures { said_of result ≡ line_of line.now }
 {
     let mut stage = Stage::AtLineKind;
+    // beside the stage, which is plain data without the line's bytes, as the grammar's definition has it
     let mut name = None;
     for word in Words::of(uncommented(line)) {
         if stage.awaits_name() {
