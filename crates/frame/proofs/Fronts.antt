@@ -1,16 +1,11 @@
 -- What is known of the datagram at the front of an area. Assumes nothing.
-use Rattle.std.proofs.Common.{◌≡◌, ℕ, ◌+◌, ◌≤◌, Bool, true, false, cond, ltb, List, length, get_or, Some, None, Option, refl, arith}
+use Rattle.std.proofs.Common.{◌≡◌, ℕ, ◌+◌, ◌≤◌, true, ltb, List, length, get_or, Some, None, Option, refl, arith}
 use Rattle.std.proofs.lemmas.Bool.Decides.{nat_tests}
 use Rattle.command.specs.Codes.{command_of}
 use Rattle.frame.specs.declared.faults.FrameFault.{FrameFault}
 use Rattle.frame.specs.Words.{word}
 use Rattle.frame.specs.Datagrams.{data_bits, reserved_bits, more_bit}
 use Rattle.frame.specs.Judging.{known, same, size_fault, or_else, front_fault}
-
--- a test that would give a fault has failed where there is none
-pub passed : (e : FrameFault) (b : Bool) (y : Option FrameFault) → cond b (Some e) y ≡ None → (b ≡ false) × (y ≡ None)
-passed e true y h = absurd cc
-passed e false y h = (refl, h)
 
 -- what is known of a length that has no fault
 pub record SizeFine (w there z : ℕ) : Type 0 where
@@ -36,10 +31,6 @@ size_clear w there z p f = grind (arith, nat_tests)
 pub or_none : (a b : Option FrameFault) → or_else a b ≡ None → (a ≡ None) × (b ≡ None)
 or_none (Some e) b h = absurd cc
 or_none None b h = (refl, h)
-
-pub known_command : (b : Bool) (e : FrameFault) → cond b None (Some e) ≡ None → b ≡ true
-known_command true e h = refl
-known_command false e h = absurd cc
 
 -- what is known of a datagram that has no fault
 pub record Fine (area : List ℕ) (z : ℕ) : Type 0 where
