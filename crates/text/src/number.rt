@@ -17,9 +17,5 @@ pub fn decimal(word: &[u8]) -> Option<u32>
     if word.is_empty() {
         return None;
     }
-    let mut value = 0;
-    for b in word {
-        value = with_digit(value, *b)?;
-    }
-    Some(value)
+    word.iter().try_fold(0, |value, b| with_digit(value, *b))
 }
