@@ -6,10 +6,8 @@ ghost use Rattle.text.specs.Decimal.{decimal_of, with_digit};
 fn with_digit(value: u32, digit: u8) -> Option<u32>
     ensures { result ≡ with_digit value digit }
 {
-    if digit < b'0' || digit > b'9' {
-        return None;
-    }
-    value.checked_mul(10)?.checked_add((digit - b'0') as u32)
+    let digit = char::from(digit).to_digit(10)?;
+    value.checked_mul(10)?.checked_add(digit)
 }
 
 // The value of a word that is a decimal number: digits alone, at least one, and at most 4,294,967,295.
@@ -19,9 +17,5 @@ pub fn decimal(word: &[u8]) -> Option<u32>
     if word.is_empty() {
         return None;
     }
-    let mut value = 0;
-    for b in word {
-        value = with_digit(value, *b)?;
-    }
-    Some(value)
+    word.iter().try_fold(0, |value, b| with_digit(value, *b))
 }
