@@ -29,7 +29,7 @@ impl Plan {
     pub fn expected_counter(&self) -> u16
         ensures { result ≡ expected_counter (stations_of self.now) }
     {
-        // A loop: the sum is taken over the planned stations themselves.
+        // A loop and no chain, by a rule of this project (docs/DECISIONS.md, "Forms that were asked for").
         let mut sum = 0;
         for station in self.stations.iter() {
             sum += station.weight();

@@ -27,8 +27,8 @@ pub enum PlanFault {
         position: LinePosition,
         field: StationField,
     },
-    // A window of the later station leaves the image or shares a bit with one of the earlier;
-    // where the image or the station's own windows are at fault, both are the station itself.
+    // A window of the later station leaves the image or shares a bit with one of the earlier.
+    // The rules ask for both positions: the station's own twice where no other station is met.
     WindowConflict {
         earlier: LinePosition,
         later: LinePosition,
@@ -41,7 +41,8 @@ pub enum PlanError {
     Memory,
 }
 
-// A number and a place as other faults have them, and no trait: nothing is generic over faults.
+// A number and a place, as the rules ask. No trait for all faults: places differ (a position, an offset),
+// and each crate tells its own.
 impl PlanFault {
     // The rule that is broken.
     pub fn number(&self) -> u16
@@ -69,6 +70,7 @@ impl PlanFault {
     }
 }
 
+// Written out: a derive would not say which case is made.
 impl From<PlanFault> for PlanError {
     ghost from_gives = { λ fault e. e ≡ Refused fault };
 

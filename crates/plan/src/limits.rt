@@ -18,12 +18,12 @@ pub const MAX_MAILBOX_BYTES: u32 = 128;
 pub(crate) fn image_in_range(bytes: u32) -> bool
     ensures { result ≡ image_in_range bytes }
 {
-    MIN_IMAGE_BYTES <= bytes && bytes <= MAX_IMAGE_BYTES
+    (MIN_IMAGE_BYTES..=MAX_IMAGE_BYTES).contains(&bytes)
 }
 
 // No mailbox has length 0.
 pub(crate) fn mailbox_in_range(bytes: u32) -> bool
     ensures { result ≡ mailbox_in_range bytes }
 {
-    bytes == 0 || (MIN_MAILBOX_BYTES <= bytes && bytes <= MAX_MAILBOX_BYTES)
+    bytes == 0 || (MIN_MAILBOX_BYTES..=MAX_MAILBOX_BYTES).contains(&bytes)
 }

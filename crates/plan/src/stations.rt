@@ -8,7 +8,7 @@ use crate::windows::Window;
 pub struct PlannedStation {
     pub(crate) outputs: Window,
     pub(crate) inputs: Window,
-    // A number and no option: a plan's text may say 0, and the rules judge it.
+    // A number: by the rules length 0 is no mailbox, and a plan's text may say it.
     pub(crate) mailbox: u32,
 }
 

@@ -12,20 +12,20 @@ use crate::windows::{any_leaves, pair_meets};
 use units::LinePosition;
 
 impl PlannedStation {
-    // The first of its fields that is out of range.
-    pub(crate) fn field_out_of_range(&self) -> Option<StationField>
-        ensures { result ≡ field_out_of_range self.now }
+    // Refuses the first of its fields that is out of range.
+    fn check_fields(&self) -> Result<(), StationField>
+        ensures { result_err result ≡ field_out_of_range self.now }
     {
         if !self.outputs().in_range() {
-            return Some(StationField::Outputs);
+            return Err(StationField::Outputs);
         }
         if !self.inputs().in_range() {
-            return Some(StationField::Inputs);
+            return Err(StationField::Inputs);
         }
         if !mailbox_in_range(self.mailbox()) {
-            return Some(StationField::Mailbox);
+            return Err(StationField::Mailbox);
         }
-        None
+        Ok(())
     }
 }
 
@@ -51,12 +51,12 @@ impl Plan {
         if count >= MAX_STATIONS {
             return Err(PlanFault::TooManyStations { position: here });
         }
-        if let Some(field) = station.field_out_of_range() {
-            return Err(PlanFault::FieldOutOfRange {
+        station
+            .check_fields()
+            .map_err(|field| PlanFault::FieldOutOfRange {
                 position: here,
                 field,
-            });
-        }
+            })?;
         let windows = station.windows();
         if any_leaves(&windows, &self.image()) {
             return Err(conflict(here));

@@ -9,8 +9,8 @@ use crate::limits::MAX_WINDOW_BITS;
 use units::{Countable, ImageBit, Span};
 
 // So many bits from the first on; a window of no bits has first bit 0.
-// Numbers and no option: a plan's text may say no bits from any bit on, and the rules judge it.
-// A type of its own and no span: these rules, and what a plan's text says, are of windows alone.
+// Numbers and no option: a plan's text may say no bits from any bit on, which the rules then refuse.
+// A type of its own and no span: its rules are of windows alone.
 #[derive(Clone, Copy)]
 pub struct Window {
     pub first: ImageBit,
@@ -78,9 +78,8 @@ impl Window {
         ensures means { Shared (bits_of self.now) (bits_of other.now) (bits_of result) }
     {
         let first = self.first.0.max(other.first.0);
-        let mine = u64::from(self.first.0) + u64::from(self.bits);
-        let theirs = u64::from(other.first.0) + u64::from(other.bits);
-        let bits = mine.min(theirs).saturating_sub(u64::from(first)) as u32;
+        let end = self.span().end().min(other.span().end());
+        let bits = end.saturating_sub(u64::from(first)) as u32;
         Window {
             first: ImageBit(first),
             bits,

@@ -19,13 +19,12 @@ struct Described<'a, 'b>(Sited<'a, 'b>);
 impl fmt::Display for Described<'_, '_> {
     fn fmt<W: fmt::Write>(&self, f: &mut fmt::Formatter<W>) -> fmt::Result {
         let Sited { place, station } = self.0;
-        let position = LinePosition(u16::try_from(place.position).unwrap_or(u16::MAX));
         write!(f, "{place}:")?;
         for mapped in station.windows() {
             if mapped.window.bits > 0 {
                 let window = Mapped(mapped);
                 let sign = sign_of(Some(Owner {
-                    position,
+                    position: place.position,
                     direction: mapped.direction,
                 }));
                 write!(f, " {window} as {sign},")?;
@@ -41,8 +40,9 @@ impl fmt::Display for Described<'_, '_> {
 impl fmt::Display for Accepted<'_, '_> {
     fn fmt<W: fmt::Write>(&self, f: &mut fmt::Formatter<W>) -> fmt::Result {
         let plan = &self.named.plan;
-        for (position, station) in plan.stations().iter().enumerate() {
-            let place = Place::at(self.named, position);
+        for (i, station) in plan.stations().iter().enumerate() {
+            // it fits: a plan has at most 32 stations
+            let place = Place::at(self.named, LinePosition(i as u16));
             let described = Described(Sited { place, station });
             writeln!(f, "{described}")?;
         }

@@ -13,61 +13,99 @@ pub struct Picture<'a> {
     pub plan: &'a Plan,
 }
 
-impl Picture<'_> {
-    // The eight signs of a byte. This and the next write a part of the one picture.
-    fn byte<W: fmt::Write>(&self, byte: u32, f: &mut fmt::Formatter<W>) -> fmt::Result {
-        f.write_char(' ')?;
+// The eight signs of a byte.
+#[derive(Clone, Copy)]
+struct ByteSigns<'a> {
+    plan: &'a Plan,
+    byte: u32,
+}
+
+impl fmt::Display for ByteSigns<'_> {
+    fn fmt<W: fmt::Write>(&self, f: &mut fmt::Formatter<W>) -> fmt::Result {
         for bit in 0..8 {
-            let place = byte.saturating_mul(8).saturating_add(bit);
+            let place = self.byte.saturating_mul(8).saturating_add(bit);
             f.write_char(sign_of(self.plan.owner(ImageBit(place))))?;
         }
         Ok(())
     }
+}
 
-    fn row<W: fmt::Write>(&self, first: u32, end: u32, f: &mut fmt::Formatter<W>) -> fmt::Result {
-        let bit = first.saturating_mul(8);
-        write!(f, "byte {first:4} bit {bit:4} ")?;
-        for byte in first..end {
-            self.byte(byte, f)?;
-        }
-        f.write_char('\n')
-    }
+// The line of a row: the signs of its bytes.
+#[derive(Clone, Copy)]
+struct Row<'a> {
+    plan: &'a Plan,
+    first: u32,
+    end: u32,
+}
 
-    // Whether no window has a bit of these bytes.
-    fn all_free(&self, first: u32, end: u32) -> bool {
-        (first.saturating_mul(8)..end.saturating_mul(8)).all(|bit| self
+impl Row<'_> {
+    // Whether no window has a bit of it.
+    fn is_free(&self) -> bool {
+        (self.first.saturating_mul(8)..self.end.saturating_mul(8)).all(|bit| self
             .plan
             .owner(ImageBit(bit))
             .is_none())
     }
 }
 
-// Bytes that no window has, as a part of the picture.
-fn free_rows<W: fmt::Write>(first: u32, end: u32, f: &mut fmt::Formatter<W>) -> fmt::Result {
-    if first >= end {
-        return Ok(());
+impl fmt::Display for Row<'_> {
+    fn fmt<W: fmt::Write>(&self, f: &mut fmt::Formatter<W>) -> fmt::Result {
+        let first = self.first;
+        let bit = first.saturating_mul(8);
+        write!(f, "byte {first:4} bit {bit:4} ")?;
+        for byte in first..self.end {
+            let signs = ByteSigns {
+                plan: self.plan,
+                byte,
+            };
+            write!(f, " {signs}")?;
+        }
+        f.write_char('\n')
     }
-    let last = end - 1;
-    if first == last {
-        return writeln!(f, "byte {first} is free");
+}
+
+// The line for bytes that no window has, if there are any.
+#[derive(Clone, Copy)]
+struct Free {
+    first: u32,
+    end: u32,
+}
+
+impl fmt::Display for Free {
+    fn fmt<W: fmt::Write>(&self, f: &mut fmt::Formatter<W>) -> fmt::Result {
+        let first = self.first;
+        if first >= self.end {
+            return Ok(());
+        }
+        let last = self.end - 1;
+        if first == last {
+            return writeln!(f, "byte {first} is free");
+        }
+        writeln!(f, "bytes {first} to {last} are free")
     }
-    writeln!(f, "bytes {first} to {last} are free")
 }
 
 impl fmt::Display for Picture<'_> {
     fn fmt<W: fmt::Write>(&self, f: &mut fmt::Formatter<W>) -> fmt::Result {
-        let bytes = self.plan.image_bytes();
-        let rows = bytes.div_ceil(BYTES_IN_A_ROW);
+        let plan = self.plan;
+        let bytes = plan.image_bytes();
         let mut free_from = 0;
-        for row in 0..rows {
-            let first = row.saturating_mul(BYTES_IN_A_ROW);
-            let end = first.saturating_add(BYTES_IN_A_ROW).min(bytes);
-            if !self.all_free(first, end) {
-                free_rows(free_from, first, f)?;
-                self.row(first, end, f)?;
+        for first in (0..bytes).step_by(BYTES_IN_A_ROW as usize) {
+            let end = (first + BYTES_IN_A_ROW).min(bytes);
+            let row = Row { plan, first, end };
+            if !row.is_free() {
+                let free = Free {
+                    first: free_from,
+                    end: first,
+                };
+                write!(f, "{free}{row}")?;
                 free_from = end;
             }
         }
-        free_rows(free_from, bytes, f)
+        let free = Free {
+            first: free_from,
+            end: bytes,
+        };
+        write!(f, "{free}")
     }
 }

@@ -8,6 +8,7 @@ use plan::limits::{
 use plan::{PlanFault, StationField, Window};
 use plan_text::{NamedPlan, ReadError, StationLine};
 use std::fmt;
+use units::LinePosition;
 
 #[derive(Clone, Copy)]
 pub struct Rejected<'a, 'b> {
@@ -84,7 +85,7 @@ struct BadStation<'a, 'b> {
 impl fmt::Display for BadStation<'_, '_> {
     fn fmt<W: fmt::Write>(&self, f: &mut fmt::Formatter<W>) -> fmt::Result {
         let place = Place {
-            position: usize::from(self.fault.place()),
+            position: LinePosition(self.fault.place()),
             name: self.refused.name,
         };
         let sited = Sited {

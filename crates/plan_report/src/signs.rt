@@ -1,5 +1,5 @@
 // A sign for each station's outputs and for its inputs.
-ghost use Rattle.std.specs.Prelude.{◌≡◌, Some, Option, slice_index_or};
+ghost use Rattle.std.specs.Prelude.{◌≡◌, Some, Option};
 ghost use Rattle.plan.specs.declared.owners.Owner.{Owner};
 ghost use Rattle.plan_report.specs.Signs.{sign, Drawn};
 

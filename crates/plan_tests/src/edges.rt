@@ -30,11 +30,15 @@ fn out_of_range(position: u16, field: StationField) -> PlanError {
     })
 }
 
-fn conflict(earlier: u16, later: u16) -> PlanError {
-    PlanError::Refused(PlanFault::WindowConflict {
+fn window_conflict(earlier: u16, later: u16) -> PlanFault {
+    PlanFault::WindowConflict {
         earlier: LinePosition(earlier),
         later: LinePosition(later),
-    })
+    }
+}
+
+fn conflict(earlier: u16, later: u16) -> PlanError {
+    PlanError::Refused(window_conflict(earlier, later))
 }
 
 // The answer to one station in a new plan for 1,024 bytes.
@@ -172,16 +176,8 @@ fn the_first_station_met_is_named(rt: HostRuntime) -> Result<(), Fail> {
         plan.add(outputs(24, 2).with_inputs(window(25, 2))),
         Err(conflict(3, 3))
     );
-    assert_eq!(rt; conflict_place(2, 3), 3);
+    assert_eq!(rt; window_conflict(2, 3).place(), 3);
     Ok(())
-}
-
-fn conflict_place(earlier: u16, later: u16) -> u16 {
-    PlanFault::WindowConflict {
-        earlier: LinePosition(earlier),
-        later: LinePosition(later),
-    }
-    .place()
 }
 
 #[test]
@@ -206,10 +202,10 @@ fn a_bit_has_one_owner(rt: HostRuntime) -> Result<(), Fail> {
     plan.add(outputs(0, 5).with_inputs(window(5, 2)))?;
     let owner = plan.owner(ImageBit(4)).ok_or("bit 4 is free")?;
     assert_eq!(rt; owner.position.0, 1);
-    assert!(rt; matches!(owner.direction, Direction::Output));
+    assert!(rt; owner.direction == Direction::Output);
     let owner = plan.owner(ImageBit(5)).ok_or("bit 5 is free")?;
     assert_eq!(rt; owner.position.0, 1);
-    assert!(rt; matches!(owner.direction, Direction::Input));
+    assert!(rt; owner.direction == Direction::Input);
     assert!(rt; plan.owner(ImageBit(7)).is_none());
     assert!(rt; plan.owner(ImageBit(8)).is_none());
     Ok(())

@@ -25,10 +25,11 @@ pub struct ImageBit(pub u32);
 pub struct StationByte(pub u16);
 
 // A station's place on the line, from 0.
+// No conversion from an index: it is made where a plan's own bound shows that it fits.
 #[derive(Clone, Copy, Debug, PartialEq, Eq)]
 pub struct LinePosition(pub u16);
 
-// Three impls alike, and no one generic unit: the types are there so that no kind is taken for another.
+// Three impls: one generic unit with a marker for its kind would be no plainer.
 impl Countable for ImageBit {
     ghost count = { λ unit. unit.0 };
 
@@ -60,9 +61,11 @@ pub struct Span<U> {
     pub count: u32,
 }
 
+// Each clause says `spanned U.Countable.count`: the range of a span needs the numbers of its kind of unit,
+// which only the bound gives.
 impl<U: Countable> Span<U> {
     // The number of the first unit behind the span.
-    fn end(&self) -> u64
+    pub fn end(&self) -> u64
         ensures { result ≡ U.Countable.count self.now.first + self.now.count }
     {
         u64::from(self.first.number()) + u64::from(self.count)
