@@ -15,7 +15,7 @@ abbrev pub handed : ℕ → List ℕ → ℕ → List Placed
 handed zero area p = []
 handed (suc f) area p = if_none (front_fault area (length area) p) (placed_at area p ∷ handed f (drop (size area) area) (p + size area))
 
--- the same with no bound
+-- the same with a bound that is always enough
 abbrev pub handed_from : List ℕ → ℕ → List Placed
 handed_from area p = handed (suc (length area)) area p
 

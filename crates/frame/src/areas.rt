@@ -4,7 +4,7 @@ ghost use Rattle.frame.specs.Judging.{front_fault, fault_of, judge_area, size_fa
 
 use crate::datagrams::Token;
 use crate::faults::FrameFault;
-use crate::headers::split_header;
+use crate::headers::{Header, split_header};
 use crate::limits::{DATAGRAM_EXTRA_BYTES, MAX_DATA_BYTES};
 
 // The datagrams of a frame from some offset on.
@@ -24,21 +24,21 @@ impl<'a> Area<'a> {
     ghost use Rattle.frame.specs.Areas.{SplitsInto};
 
     // Judges the length, the flags and the end of the datagram at the front.
-    fn check_size(&self, size: u16) -> Result<(), FrameFault>
-        ensures { fault_of result ≡ size_fault size (length self.now.bytes.now) self.now.left self.now.at }
+    fn check_size(&self, header: Header) -> Result<(), FrameFault>
+        ensures { fault_of result ≡ size_fault header.size (length self.now.bytes.now) self.now.left self.now.at }
     {
         let at = self.at;
-        let bytes = usize::from(size % 2048);
+        let bytes = header.data_bytes();
         if !(1..=MAX_DATA_BYTES).contains(&bytes) {
             return Err(FrameFault::DataLength { at, bytes });
         }
-        if size / 2048 % 16 != 0 {
+        if header.reserved() != 0 {
             return Err(FrameFault::Reserved { at });
         }
         if self.bytes.len() < bytes + DATAGRAM_EXTRA_BYTES {
             return Err(FrameFault::Passes { at });
         }
-        if (size >= 32768) != (bytes + DATAGRAM_EXTRA_BYTES < self.left) {
+        if header.more() != (bytes + DATAGRAM_EXTRA_BYTES < self.left) {
             return Err(FrameFault::More { at });
         }
         Ok(())
@@ -51,8 +51,8 @@ impl<'a> Area<'a> {
     {
         let at = self.at;
         let (header, body) = split_header(self.bytes).ok_or(FrameFault::Passes { at })?;
-        self.check_size(header.size)?;
-        let bytes = usize::from(header.size % 2048);
+        self.check_size(header)?;
+        let bytes = header.data_bytes();
         let counter = u16::from_le_bytes([body[bytes], body[bytes + 1]]);
         let token = header.token(&body[..bytes], counter, at)?;
         let size = bytes + DATAGRAM_EXTRA_BYTES;

@@ -7,6 +7,7 @@ use command::Command;
 
 // What a datagram says, wherever it stands. The low half of a physical address is ADP, the high
 // half ADO.
+// No model: it is plain data whose fields callers read, and contracts see of it what `fields_of` says.
 #[derive(Clone, Copy)]
 pub struct Datagram<'a> {
     pub command: Command,

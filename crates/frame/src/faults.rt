@@ -23,7 +23,8 @@ pub enum FrameFault {
     Unlisted { at: usize, code: u8 },
 }
 
-// A number and a place as other faults have them, and no trait: nothing is generic over faults.
+// A number and a place, as the rules ask. No trait for all faults: places differ (a position, an
+// offset), and each crate tells its own.
 impl FrameFault {
     // The rule that is broken.
     pub fn number(&self) -> u16

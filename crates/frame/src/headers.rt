@@ -1,13 +1,16 @@
 // The ten header bytes of a datagram.
 ghost use Rattle.std.specs.Prelude.{◌≡◌, ◌+◌, ◌^◌, ◌<◌, length, IfOk, MatchOption};
-ghost use Rattle.frame.specs.Datagrams.{placed_of};
+ghost use Rattle.frame.specs.Datagrams.{data_bits, more_bit, placed_of, reserved_bits};
 ghost use Rattle.frame.specs.Judging.{fault_of, command_fault};
 ghost use Rattle.frame.specs.Headers.{SplitOff, fields_with};
 
 use crate::datagrams::{Part, Token};
 use crate::faults::FrameFault;
-use crate::limits::DATAGRAM_HEADER_BYTES;
+use crate::limits::{DATAGRAM_HEADER_BYTES, LENGTHS};
 use command::{Command, CommandKind};
+
+// beside the length, above the reserved bits: another datagram follows
+const MORE: u16 = 0x8000;
 
 // What the ten header bytes say.
 #[derive(Clone, Copy)]
@@ -16,7 +19,7 @@ pub(crate) struct Header {
     index: u8,
     address: u32,
     // the length of the data, and the flags
-    pub(crate) size: u16,
+    size: u16,
     irq: u16,
 }
 
@@ -38,6 +41,27 @@ pub(crate) fn split_header(area: &[u8]) -> Option<(Header, &[u8])>
 }
 
 impl Header {
+    // How many bytes of data the datagram has.
+    pub(crate) fn data_bytes(self) -> usize
+        ensures { result ≡ data_bits self.size }
+    {
+        usize::from(self.size % LENGTHS)
+    }
+
+    // The bits between the length and the flag.
+    pub(crate) fn reserved(self) -> u16
+        ensures { result ≡ reserved_bits self.size }
+    {
+        self.size % MORE / LENGTHS
+    }
+
+    // Whether another datagram follows.
+    pub(crate) fn more(self) -> bool
+        ensures { result ≡ more_bit self.size }
+    {
+        self.size >= MORE
+    }
+
     // The datagram with this header, which begins at that offset.
     pub(crate) fn token<'a>(
         self,

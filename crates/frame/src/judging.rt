@@ -5,10 +5,13 @@ ghost use Rattle.frame.specs.Reading.{outcome};
 
 use crate::areas::Area;
 use crate::faults::FrameFault;
-use crate::limits::{FRAME_HEADER_BYTES, MAX_FRAME_BYTES, MIN_FRAME_BYTES};
+use crate::limits::{FRAME_HEADER_BYTES, LENGTHS, MAX_FRAME_BYTES, MIN_FRAME_BYTES};
 use crate::reading::Tokens;
 
 const ETHERCAT: u16 = 0x88a4;
+// what stands beside the length in the EtherCAT header: bit 11 is zero, and the type in the top four
+// bits is 1
+const DATAGRAMS: u16 = 0x1000;
 
 // How many bytes of datagrams there are by the frame's header, if the frame itself is sound.
 fn area_bytes(bytes: &[u8]) -> Result<usize, FrameFault>
@@ -23,13 +26,14 @@ fn area_bytes(bytes: &[u8]) -> Result<usize, FrameFault>
         return Err(FrameFault::EtherType { found });
     }
     let header = u16::from_le_bytes([bytes[14], bytes[15]]);
-    if header / 2048 != 2 {
+    let size = header % LENGTHS;
+    if header - size != DATAGRAMS {
         return Err(FrameFault::Header { found: header });
     }
-    match header % 2048 {
-        0 => Err(FrameFault::Empty),
-        size => Ok(usize::from(size)),
+    if size == 0 {
+        return Err(FrameFault::Empty);
     }
+    Ok(usize::from(size))
 }
 
 // Judges a whole frame. Its datagrams are then handed out in turn.

@@ -10,3 +10,5 @@ pub const DATAGRAM_HEADER_BYTES: usize = 10;
 pub const DATAGRAM_EXTRA_BYTES: usize = 12;
 
 pub const MAX_DATA_BYTES: usize = 1486;
+// how many values a length may have: it stands in the low 11 of 16 bits
+pub(crate) const LENGTHS: u16 = 0x0800;

@@ -3,6 +3,7 @@ ghost use Rattle.std.specs.Prelude.{◌≡◌, length};
 
 use crate::areas::Area;
 use crate::datagrams::Token;
+// It stands apart: what it promises names `Tokens`, and this file's imports may not lead back to it.
 pub use crate::judging::read_frame;
 
 // The datagrams of a frame, handed out one at a time.

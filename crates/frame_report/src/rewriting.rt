@@ -22,10 +22,14 @@ impl fmt::Display for WriteRefusal {
                 let refusal = RefusalLine(fault);
                 write!(f, "{refusal}")
             }
-            WriteFault::ShortBuffer { bytes } => write!(
-                f,
-                "refused 10 0: the buffer has {bytes} bytes; a frame may need {MAX_FRAME_BYTES}"
-            ),
+            WriteFault::ShortBuffer { bytes } => {
+                let number = self.0.number();
+                let place = self.0.place();
+                write!(
+                    f,
+                    "refused {number} {place}: the buffer has {bytes} bytes; a frame may need {MAX_FRAME_BYTES}"
+                )
+            }
         }
     }
 }

@@ -19,7 +19,7 @@ pub(crate) fn check_datagram(at: usize, datagram: &Datagram<'_>) -> Result<(), F
     ensures { fault_of result ≡ add_fault at (fields_of datagram.now) }
 {
     let bytes = datagram.data.len();
-    if bytes < 1 || bytes > MAX_DATA_BYTES {
+    if !(1..=MAX_DATA_BYTES).contains(&bytes) {
         return Err(FrameFault::DataLength { at, bytes });
     }
     if at + (bytes + DATAGRAM_EXTRA_BYTES) > MAX_FRAME_BYTES {

@@ -13,7 +13,8 @@ pub enum WriteFault {
     ShortBuffer { bytes: usize },
 }
 
-// A number and a place as other faults have them, and no trait: nothing is generic over faults.
+// A number and a place, as the rules ask. No trait for all faults: places differ (a position, an
+// offset), and each crate tells its own.
 impl WriteFault {
     // The rule that is broken.
     pub fn number(&self) -> u16
@@ -36,6 +37,7 @@ impl WriteFault {
     }
 }
 
+// Written out: a derive would not say which case is made.
 impl From<FrameFault> for WriteFault {
     ghost from_gives = { λ fault e. e ≡ Refused fault };
 

@@ -55,7 +55,7 @@ fn seal(buffer: &mut [u8], last: Laid) -> usize
 
 impl<'a> Writer<'a> {
     // Ends the frame and says how long it is, or says why not and alters nothing.
-    // A count, as `Read::read` gives: the buffer is the caller's, and longer than the frame.
+    // A count and no slice: a result that borrowed the buffer would hide what becomes of it.
     pub fn finish(self) -> Result<usize, WriteFault>
         ensures value { result ≡ finish_answer (length self.entry.buffer.now) (end_of self.entry) }
         ensures cases { MatchResult result (λ n. (ds : List Fields) → holds self.entry ds → Written self.entry.buffer.now ds n self.exit.0.now) (λ _. self.exit.0.now ≡ self.entry.buffer.now) }

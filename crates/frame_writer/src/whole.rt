@@ -29,7 +29,7 @@ fn check_list(datagrams: &[Datagram<'_>]) -> Result<(), FrameFault>
 
 // Writes a frame of these datagrams over the first bytes of the buffer and says how long it is, or
 // says why not and alters nothing. Read again, the frame gives the datagrams.
-// A count, as `Read::read` gives: the buffer is the caller's, and longer than the frame.
+// A count and no slice: a result that borrowed the buffer would hide what becomes of it.
 pub fn write_frame(buffer: &mut [u8], datagrams: &[Datagram<'_>]) -> Result<usize, WriteFault>
     ensures value { result ≡ write_answer (length buffer.old) (map fields_of datagrams.now) }
     ensures cases { MatchResult result (λ n. Written buffer.old (map fields_of datagrams.now) n buffer.new) (λ _. buffer.new ≡ buffer.old) }
@@ -45,6 +45,7 @@ pub fn write_frame(buffer: &mut [u8], datagrams: &[Datagram<'_>]) -> Result<usiz
 
 // Writes the datagrams of a frame again, as a frame over the first bytes of the buffer, and says how
 // long that is, or says why not and alters nothing. Its datagrams are those of the first frame, byte for byte.
+// A count and no slice: a result that borrowed the buffer would hide what becomes of it.
 pub fn rewrite_frame(buffer: &mut [u8], frame: &[u8]) -> Result<usize, WriteFault>
     ensures value { result ≡ rewrite_answer (length buffer.old) (judged frame.now) }
     ensures cases { MatchResult result (λ n. Rewritten buffer.old frame.now n buffer.new) (λ _. buffer.new ≡ buffer.old) }
