@@ -6,11 +6,8 @@ ghost use Rattle.frame.specs.Headers.{SplitOff, fields_with};
 
 use crate::datagrams::{Part, Token};
 use crate::faults::FrameFault;
-use crate::limits::{DATAGRAM_HEADER_BYTES, LENGTHS};
+use crate::limits::{DATAGRAM_HEADER_BYTES, LENGTHS, MORE};
 use command::{Command, CommandKind};
-
-// beside the length, above the reserved bits: another datagram follows
-const MORE: u16 = 0x8000;
 
 // What the ten header bytes say.
 #[derive(Clone, Copy)]

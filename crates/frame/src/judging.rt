@@ -5,13 +5,10 @@ ghost use Rattle.frame.specs.Reading.{outcome};
 
 use crate::areas::Area;
 use crate::faults::FrameFault;
-use crate::limits::{FRAME_HEADER_BYTES, LENGTHS, MAX_FRAME_BYTES, MIN_FRAME_BYTES};
+use crate::limits::{DATAGRAMS, FRAME_HEADER_BYTES, LENGTHS, MAX_FRAME_BYTES, MIN_FRAME_BYTES};
 use crate::reading::Tokens;
 
 const ETHERCAT: u16 = 0x88a4;
-// what stands beside the length in the EtherCAT header: bit 11 is zero, and the type in the top four
-// bits is 1
-const DATAGRAMS: u16 = 0x1000;
 
 // How many bytes of datagrams there are by the frame's header, if the frame itself is sound.
 fn area_bytes(bytes: &[u8]) -> Result<usize, FrameFault>

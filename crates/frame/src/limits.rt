@@ -1,4 +1,4 @@
-// The sizes of frames and datagrams.
+// The sizes of frames and datagrams, and what stands beside a length.
 pub const MIN_FRAME_BYTES: usize = 60;
 
 pub const MAX_FRAME_BYTES: usize = 1514;
@@ -12,3 +12,8 @@ pub const DATAGRAM_EXTRA_BYTES: usize = 12;
 pub const MAX_DATA_BYTES: usize = 1486;
 // how many values a length may have: it stands in the low 11 of 16 bits
 pub(crate) const LENGTHS: u16 = 0x0800;
+
+// beside the length in the EtherCAT header: bit 11 is zero, and the type in the top four bits is 1
+pub const DATAGRAMS: u16 = 0x1000;
+// beside a datagram's length, above the reserved bits: another datagram follows
+pub const MORE: u16 = 0x8000;

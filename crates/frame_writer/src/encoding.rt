@@ -4,10 +4,7 @@ ghost use Rattle.frame.specs.Datagrams.{fields_of};
 ghost use Rattle.frame_writer.specs.Encoding.{header, encoded, size_in, laid_at};
 
 use frame::Datagram;
-use frame::limits::DATAGRAM_HEADER_BYTES;
-
-// the bit beside a datagram's length that says that another follows
-const MORE: u16 = 0x8000;
+use frame::limits::{DATAGRAM_HEADER_BYTES, MORE};
 
 // Puts bytes at a place of the buffer.
 pub(crate) fn paste_at(buffer: &mut [u8], at: usize, bytes: &[u8])

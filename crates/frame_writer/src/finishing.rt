@@ -11,10 +11,7 @@ use crate::encoding::paste_at;
 use crate::faults::WriteFault;
 use crate::writers::{Laid, Writer};
 use frame::FrameFault;
-use frame::limits::{FRAME_HEADER_BYTES, MIN_FRAME_BYTES};
-
-// type 1 in the top four bits of the EtherCAT header: datagrams follow
-const DATAGRAMS: u16 = 0x1000;
+use frame::limits::{DATAGRAMS, FRAME_HEADER_BYTES, MIN_FRAME_BYTES};
 
 // The frame's header: to everyone, from this master, EtherCAT, and how many bytes of datagrams follow.
 fn frame_header(area: usize) -> [u8; 16]

@@ -14,17 +14,20 @@ pub struct Accepted<'a, 'b> {
 
 // The windows of a station with their signs, and its mailbox.
 #[derive(Clone, Copy)]
-struct Described<'a, 'b>(Sited<'a, 'b>);
+struct Described<'a, 'b> {
+    position: LinePosition,
+    sited: Sited<'a, 'b>,
+}
 
 impl fmt::Display for Described<'_, '_> {
     fn fmt<W: fmt::Write>(&self, f: &mut fmt::Formatter<W>) -> fmt::Result {
-        let Sited { place, station } = self.0;
+        let Sited { place, station } = self.sited;
         write!(f, "{place}:")?;
         for mapped in station.windows() {
             if mapped.window.bits > 0 {
                 let window = Mapped(mapped);
                 let sign = sign_of(Some(Owner {
-                    position: place.position,
+                    position: self.position,
                     direction: mapped.direction,
                 }));
                 write!(f, " {window} as {sign},")?;
@@ -41,9 +44,12 @@ impl fmt::Display for Accepted<'_, '_> {
     fn fmt<W: fmt::Write>(&self, f: &mut fmt::Formatter<W>) -> fmt::Result {
         let plan = &self.named.plan;
         for (i, station) in plan.stations().iter().enumerate() {
+            let place = Place::at(self.named, i);
             // it fits: a plan has at most 32 stations
-            let place = Place::at(self.named, LinePosition(i as u16));
-            let described = Described(Sited { place, station });
+            let described = Described {
+                position: LinePosition(i as u16),
+                sited: Sited { place, station },
+            };
             writeln!(f, "{described}")?;
         }
         let counter = plan.expected_counter();

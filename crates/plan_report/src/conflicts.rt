@@ -105,7 +105,7 @@ pub(crate) struct Conflict<'a, 'b> {
 impl fmt::Display for Conflict<'_, '_> {
     fn fmt<W: fmt::Write>(&self, f: &mut fmt::Formatter<W>) -> fmt::Result {
         let later = self.later;
-        match Sited::at(self.before, self.earlier) {
+        match Sited::at(self.before, usize::from(self.earlier.0)) {
             Some(earlier) => {
                 let meeting = Meeting { earlier, later };
                 write!(f, "{meeting}")

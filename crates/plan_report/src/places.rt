@@ -2,7 +2,6 @@
 use plan::{Direction, MappedWindow, PlannedStation, Window};
 use plan_text::NamedPlan;
 use std::fmt;
-use units::LinePosition;
 
 // A window by its first and last bit.
 #[derive(Clone, Copy)]
@@ -36,16 +35,16 @@ impl fmt::Display for Mapped {
 // A station by its position and, if it has one, its name.
 #[derive(Clone, Copy)]
 pub struct Place<'a> {
-    pub position: LinePosition,
+    pub position: usize,
     pub name: Option<&'a [u8]>,
 }
 
 impl<'a> Place<'a> {
     // A position of a plan, with the name that the plan's text gives the station there.
-    pub(crate) fn at(named: &NamedPlan<'a>, position: LinePosition) -> Place<'a> {
+    pub(crate) fn at(named: &NamedPlan<'a>, position: usize) -> Place<'a> {
         Place {
             position,
-            name: named.name(usize::from(position.0)),
+            name: named.name(position),
         }
     }
 }
@@ -65,7 +64,7 @@ impl fmt::Display for Name<'_> {
 
 impl fmt::Display for Place<'_> {
     fn fmt<W: fmt::Write>(&self, f: &mut fmt::Formatter<W>) -> fmt::Result {
-        let position = self.position.0;
+        let position = self.position;
         match self.name.map(Name) {
             Some(name) => write!(f, "station {position} {name}"),
             None => write!(f, "station {position}"),
@@ -82,8 +81,8 @@ pub(crate) struct Sited<'a, 'b> {
 
 impl<'a, 'b> Sited<'a, 'b> {
     // The station of a plan at that position.
-    pub fn at(named: &'b NamedPlan<'a>, position: LinePosition) -> Option<Sited<'a, 'b>> {
-        let station = named.plan.stations().get(usize::from(position.0))?;
+    pub fn at(named: &'b NamedPlan<'a>, position: usize) -> Option<Sited<'a, 'b>> {
+        let station = named.plan.stations().get(position)?;
         let place = Place::at(named, position);
         Some(Sited { place, station })
     }

@@ -8,7 +8,6 @@ use plan::limits::{
 use plan::{PlanFault, StationField, Window};
 use plan_text::{NamedPlan, ReadError, StationLine};
 use std::fmt;
-use units::LinePosition;
 
 #[derive(Clone, Copy)]
 pub struct Rejected<'a, 'b> {
@@ -85,7 +84,7 @@ struct BadStation<'a, 'b> {
 impl fmt::Display for BadStation<'_, '_> {
     fn fmt<W: fmt::Write>(&self, f: &mut fmt::Formatter<W>) -> fmt::Result {
         let place = Place {
-            position: LinePosition(self.fault.place()),
+            position: usize::from(self.fault.place()),
             name: self.refused.name,
         };
         let sited = Sited {
