@@ -1,4 +1,4 @@
-use Rattle.std.proofs.Common.{Err, sym, ap, ◌∙◌}
+use Rattle.std.proofs.Common.{Err, sym, ap, ◌∙◌, rules}
 use Rattle.std.proofs.lemmas.Result.{err_from_is_err_and}
 use Rattle.frame.specs.Reading.{outcome}
 use Rattle.frame.proofs.Heads.{judged_area, area_accepted, fault_known}
@@ -13,8 +13,8 @@ returns-in_err-check c =
 
 pub invariant_of-result : goal.invariant_of-result
 invariant_of-result c =
-    let a = area_accepted c.args.bytes.now c.in_ok-promised.promised _ c.min-end.ensures c.in_ok-check.ensures in
-    record { whole = a.whole }
+    let whole = (area_accepted c.args.bytes.now c.in_ok-promised.promised _ c.min-end.ensures c.in_ok-check.ensures).whole in
+    search rules
 
 pub returns : goal.returns
 returns c =
