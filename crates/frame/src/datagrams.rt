@@ -62,6 +62,7 @@ impl<'a> Token<'a> {
         ensures { result ≡ (placed_of self.now).fields.address }
     {
         match *self {
+            // joined by arithmetic, as `Header::token` takes them apart
             Token::Physical { adp, ado, .. } => u32::from(adp) + 65536 * u32::from(ado),
             Token::Logical { address, .. } | Token::Idle { address, .. } => address,
         }

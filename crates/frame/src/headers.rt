@@ -94,7 +94,7 @@ impl Header {
                 address,
                 part,
             }),
-            // Halves by arithmetic, here and where they are joined: the library has no method for them.
+            // Halves by arithmetic: by way of bytes they would be no plainer.
             CommandKind::Physical => Ok(Token::Physical {
                 command,
                 adp: (address % 65536) as u16,

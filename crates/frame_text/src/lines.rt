@@ -20,7 +20,7 @@ impl fmt::Display for Address {
 
     fn fmt<W: fmt::Write>(&self, f: &mut fmt::Formatter<W>) -> fmt::Result {
         let number = self.number;
-        // halves by arithmetic, as the library has no method for them
+        // halves by arithmetic: by way of bytes they would be no plainer
         let adp = number % 65536;
         let ado = number / 65536;
         match self.command.kind() {

@@ -55,7 +55,7 @@ impl fmt::Display for Accepted<'_, '_> {
         let counter = plan.expected_counter();
         let free = plan.free_bits();
         let bytes = plan.image_bytes();
-        let bits = bytes.saturating_mul(8);
+        let bits = plan.image().count;
         writeln!(f, "expected working counter: {counter}")?;
         writeln!(f, "free bits: {free} of {bits}")?;
         writeln!(

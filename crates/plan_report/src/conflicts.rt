@@ -5,7 +5,7 @@ use plan_text::NamedPlan;
 use std::fmt;
 use units::LinePosition;
 
-// The first of the others that shares a bit with the window.
+// The first of the others that shares a bit with the window. A plan's own tests say whether, and here it is asked which.
 fn first_met(window: &Window, others: &[MappedWindow]) -> Option<MappedWindow> {
     others
         .iter()

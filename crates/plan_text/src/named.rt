@@ -11,6 +11,7 @@ use std::alloc::Global;
 pub struct NamedPlan<'a> {
     pub plan: Plan,
     // Beside the plan, since a name is no part of what is planned: a plan's stations and rules know of none.
+    // Bytes and no `str`, as the text that they stand in.
     pub names: Vec<Option<&'a [u8]>>,
 }
 

@@ -2,7 +2,7 @@
 ghost use Rattle.plan_text.specs.Outcome.{read_text, Answered};
 
 use crate::expected::Expected;
-use crate::named::NamedPlan;
+pub use crate::named::NamedPlan;
 use crate::said::{Line, StationLine, read_line};
 use plan::PlanFault;
 use std::alloc::Global;
