@@ -50,7 +50,7 @@ pub fn read_hex(heap: Global, line: &[u8]) -> Result<Vec<u8>, HexError>
     ensures { Answered (hex_of line.now) result }
 {
     let mut bytes = Vec::new(heap);
-    // A loop, and no pairs of digits: blanks may stand between the two, and neither may be followed by another.
+    // A loop, and no chunks of two: blanks may stand between the digits of a byte.
     let mut high = None;
     for b in line {
         if is_blank(*b) {

@@ -81,7 +81,7 @@ pub(crate) struct Sited<'a, 'b> {
 
 impl<'a, 'b> Sited<'a, 'b> {
     // The station of a plan at that position.
-    pub fn at(named: &'b NamedPlan<'a>, position: usize) -> Option<Sited<'a, 'b>> {
+    pub(crate) fn at(named: &'b NamedPlan<'a>, position: usize) -> Option<Sited<'a, 'b>> {
         let station = named.plan.stations().get(position)?;
         let place = Place::at(named, position);
         Some(Sited { place, station })
