@@ -45,9 +45,16 @@ pub record Holds (buffer : List ℕ) (last : Option Laid) (ds : List Fields) : T
   pub tail : IsLast last ds
   pub valid : AllValid ds
 
+-- the bytes of the lent buffer, and the loan by which it came
+abbrev pub buffer_of : Writer → List ℕ
+buffer_of w = w.buffer.now
+
+abbrev pub loan_of : Writer → ℕ
+loan_of w = w.buffer.ghost_name
+
 -- where a frame's next datagram would begin
 abbrev pub end_of : Writer → ℕ
 end_of w = end_after w.last
 
 abbrev pub holds : Writer → List Fields → Type 0
-holds w ds = Holds w.buffer.now w.last ds
+holds w ds = Holds (buffer_of w) w.last ds

@@ -4,7 +4,7 @@ ghost use Rattle.frame.specs.Datagrams.{Fields, fields_of};
 ghost use Rattle.frame.specs.Judging.{fault_of};
 ghost use Rattle.frame_writer.specs.Adding.{add_fault, add_answer, added, in_buffer};
 ghost use Rattle.frame_writer.specs.Encoding.{size_in, encoded, laid_at};
-ghost use Rattle.frame_writer.specs.Writers.{holds, end_of};
+ghost use Rattle.frame_writer.specs.Writers.{buffer_of, loan_of, holds, end_of};
 
 use crate::encoding::put;
 use crate::faults::WriteFault;
@@ -46,20 +46,20 @@ impl<'a> Writer<'a> {
     // A frame with no datagram as yet, to be written over the first bytes of the buffer.
     pub fn over(buffer: &'a mut [u8]) -> Writer<'a>
         ensures held { holds result [] }
-        ensures bytes { result.buffer.now ≡ buffer.old }
-        ensures same { result.buffer.ghost_name ≡ buffer.entry.ghost_name }
+        ensures bytes { buffer_of result ≡ buffer.old }
+        ensures same { loan_of result ≡ buffer.entry.ghost_name }
     {
         Writer { buffer, last: None }
     }
 
     // Adds a datagram, or says why not and alters nothing.
     pub fn add(&mut self, datagram: &Datagram<'_>) -> Result<(), WriteFault>
-        ensures value { result ≡ add_answer (length self.old.buffer.now) (end_of self.old) (fields_of datagram.now) }
+        ensures value { result ≡ add_answer (length (buffer_of self.old)) (end_of self.old) (fields_of datagram.now) }
         ensures held { (ds : List Fields) → holds self.old ds → holds self.new (added result ds (fields_of datagram.now)) }
-        ensures cases { MatchResult result (λ _. (self.new.buffer.now ≡ laid_at (end_of self.old) (encoded (fields_of datagram.now) 128) self.old.buffer.now) × (end_of self.new ≡ end_of self.old + size_in (fields_of datagram.now))) (λ _. (self.new.buffer.now ≡ self.old.buffer.now) × (end_of self.new ≡ end_of self.old)) }
-        ensures behind { drop (end_of self.new) self.new.buffer.now ≡ drop (end_of self.new) self.old.buffer.now }
-        ensures len { length self.new.buffer.now ≡ length self.old.buffer.now }
-        ensures same { self.new.buffer.ghost_name ≡ self.old.buffer.ghost_name }
+        ensures cases { MatchResult result (λ _. (buffer_of self.new ≡ laid_at (end_of self.old) (encoded (fields_of datagram.now) 128) (buffer_of self.old)) × (end_of self.new ≡ end_of self.old + size_in (fields_of datagram.now))) (λ _. (buffer_of self.new ≡ buffer_of self.old) × (end_of self.new ≡ end_of self.old)) }
+        ensures behind { drop (end_of self.new) (buffer_of self.new) ≡ drop (end_of self.new) (buffer_of self.old) }
+        ensures len { length (buffer_of self.new) ≡ length (buffer_of self.old) }
+        ensures same { loan_of self.new ≡ loan_of self.old }
     {
         let at = self.end();
         check_datagram(at, datagram)?;

@@ -4,7 +4,7 @@ ghost use Rattle.frame.specs.Datagrams.{Fields};
 ghost use Rattle.frame_writer.specs.Adding.{frame_length, finish_answer};
 ghost use Rattle.frame_writer.specs.Encoding.{laid_at};
 ghost use Rattle.frame_writer.specs.Frames.{head_of, Written};
-ghost use Rattle.frame_writer.specs.Writers.{Holds, holds, end_after, end_of};
+ghost use Rattle.frame_writer.specs.Writers.{buffer_of, Holds, holds, end_after, end_of};
 
 use crate::adding::check_buffer;
 use crate::encoding::paste_at;
@@ -54,8 +54,8 @@ impl<'a> Writer<'a> {
     // Ends the frame and says how long it is, or says why not and alters nothing.
     // A count and no slice: a result that borrowed the buffer would hide what becomes of it.
     pub fn finish(self) -> Result<usize, WriteFault>
-        ensures value { result ≡ finish_answer (length self.entry.buffer.now) (end_of self.entry) }
-        ensures cases { MatchResult result (λ n. (ds : List Fields) → holds self.entry ds → Written self.entry.buffer.now ds n self.exit.0.now) (λ _. self.exit.0.now ≡ self.entry.buffer.now) }
+        ensures value { result ≡ finish_answer (length (buffer_of self.entry)) (end_of self.entry) }
+        ensures cases { MatchResult result (λ n. (ds : List Fields) → holds self.entry ds → Written (buffer_of self.entry) ds n self.exit.0.now) (λ _. self.exit.0.now ≡ buffer_of self.entry) }
     {
         let Writer { buffer, last } = self;
         let last = last.ok_or(FrameFault::Empty)?;

@@ -7,6 +7,7 @@ use Rattle.plan.specs.declared.windows.Direction.{Direction}
 use Rattle.plan.specs.declared.windows.Direction.TheVariants.{Output, Input}
 use Rattle.plan.specs.declared.windows.Window.{Window}
 use Rattle.plan.specs.declared.stations.PlannedStation.{PlannedStation}
+use Rattle.plan.specs.Stations.{bare, with_outputs, with_inputs, with_mailbox}
 use Rattle.plan_text.specs.declared.expected.Expected.{Expected}
 use Rattle.plan_text.specs.declared.expected.Expected.TheVariants.{LineKind, ImageBytes, FirstBit, BitCount, MailboxBytes, Field, FieldOnce, EndOfLine}
 use Rattle.plan_text.specs.declared.keywords.Keyword.{Keyword}
@@ -28,11 +29,10 @@ bit n = record { 0 = n }
 
 -- the station that the fields make; what is not given is absent
 abbrev pub told_station : Fields → PlannedStation
-told_station f = record {
-  outputs = unwrap_or f.outputs (window (bit 0) 0);
-  inputs = unwrap_or f.inputs (window (bit 0) 0);
-  mailbox = unwrap_or f.mailbox 0;
-}
+told_station f =
+    let outputs = unwrap_or f.outputs (window (bit 0) 0) in
+    let inputs = unwrap_or f.inputs (window (bit 0) 0) in
+    with_mailbox (with_inputs (with_outputs bare outputs) inputs) (unwrap_or f.mailbox 0)
 
 -- the fields with the window of that direction given
 abbrev pub with_window : Fields → Direction → Window → Fields
