@@ -6,8 +6,11 @@ ghost use Rattle.text.specs.Decimal.{decimal_of, with_digit};
 fn with_digit(value: u32, digit: u8) -> Option<u32>
     ensures { result ≡ with_digit value digit }
 {
-    let digit = char::from(digit).to_digit(10)?;
-    value.checked_mul(10)?.checked_add(digit)
+    let tens = value.checked_mul(10)?;
+    if !digit.is_ascii_digit() {
+        return None;
+    }
+    tens.checked_add(u32::from(digit - b'0'))
 }
 
 // The value of a word that is a decimal number: digits alone, at least one, and at most 4,294,967,295.
