@@ -9,7 +9,7 @@ use Rattle.frame.specs.declared.reading.Tokens.{Tokens}
 use Rattle.frame.specs.Areas.{SplitsInto}
 use Rattle.frame.specs.Datagrams.{Placed, size, placed_of, placed_at}
 use Rattle.frame.specs.Judging.{front_fault, unless, before, judge, judge_area, fault_of}
-use Rattle.frame.specs.Reading.{if_none, handed, handed_from, left}
+use Rattle.frame.specs.Reading.{if_none, handed, handed_in, left}
 use Rattle.frame.proofs.Fronts.{fine}
 
 unless-same : {X : Type 0} (o : Option FrameFault) (r s : Result X FrameFault) → (o ≡ None → r ≡ s) → unless o r ≡ unless o s
@@ -72,7 +72,7 @@ handed_none (suc f) p = refl
 handed_front : (f : ℕ) (area : List ℕ) (p : ℕ) → front_fault area (length area) p ≡ None → handed (suc f) area p ≡ placed_at area p ∷ handed f (drop (size area) area) (p + size area)
 handed_front f area p h = rw h
 
-pub handed_more : (a b : Area) (t : Token) → length a.bytes.now ≡ a.left → None ≡ front_fault a.bytes.now a.left a.at → SplitsInto a t b → handed_from a.bytes.now a.at ≡ placed_of t ∷ handed_from b.bytes.now b.at
+pub handed_more : (a b : Area) (t : Token) → length a.bytes.now ≡ a.left → None ≡ front_fault a.bytes.now a.left a.at → SplitsInto a t b → handed_in a.bytes.now a.at ≡ placed_of t ∷ handed_in b.bytes.now b.at
 handed_more a b t whole h s =
     let front = s.front in
     let bytes = s.bytes in

@@ -16,12 +16,12 @@ handed zero area p = []
 handed (suc f) area p = if_none (front_fault area (length area) p) (placed_at area p ∷ handed f (drop (size area) area) (p + size area))
 
 -- the same with a bound that is always enough
-abbrev pub handed_from : List ℕ → ℕ → List Placed
-handed_from area p = handed (suc (length area)) area p
+abbrev pub handed_in : List ℕ → ℕ → List Placed
+handed_in area p = handed (suc (length area)) area p
 
 -- the datagrams that are still to be handed out
 abbrev pub left : Tokens → List Placed
-left ts = handed_from ts.rest.bytes.now ts.rest.at
+left ts = handed_in ts.rest.bytes.now ts.rest.at
 
 -- what a reader answers: the datagrams that it will hand out, or the fault
 abbrev pub outcome : Result Tokens FrameFault → Result (List Placed) FrameFault
